@@ -29,7 +29,7 @@ class Word(NamedTuple):
 
 
 class Key(NamedTuple):
-    """A key of an object: of the script, of its `cooperator`, or of a body."""
+    """A key of an object: of the script, of its `cooperator`, of a body, or of a failure in a value."""
 
     of: str
     key: str

@@ -2,7 +2,7 @@
 
 An editor that has it completes and checks a script while it is typed. It says what the program refuses as BadShape, BadName and
 TooMany, as far as a schema can. Left to the program are: which names are bound or declared; that `1.0` is no integer; words,
-comments of bodies and marks in names that the version of the script doesn't have; all advances together; the size of the whole text.
+comments of bodies, failures in values and marks in names that the version of the script doesn't have; all advances together; the size of the whole text.
 """
 
 from __future__ import annotations
@@ -78,7 +78,8 @@ class _Maker:
             "name": {"type": "string", "pattern": f"^{name}$"},
             "name-or-own": {"type": "string", "pattern": f"^({name}|@)$"},
             "class": {"anyOf": [{"enum": list(self._language.classes)}, _ref("name")]},
-            "value": {"anyOf": [*scalars, {"type": "array", "items": _ref("value")}]},
+            "value": {"anyOf": [*scalars, {"type": "array", "items": _ref("member")}]},
+            "member": {"anyOf": [_ref("value"), _ref("failure")]},
         }
 
     def place(self, place: str) -> Schema:
@@ -104,13 +105,14 @@ class _Maker:
         return {"title": " or ".join(row.text for row in rows), **_fixed(parts), "minItems": least}
 
     def object(self, name: str) -> Schema:
-        """An object of the language: the script, its `cooperator`, a body."""
+        """An object of the language: the script, its `cooperator`, a body, a failure in a value."""
         keys = self._language.keys_of(name)
         return {
             "type": "object",
             "properties": {key.key: self._key(key) for key in keys},
             "required": [key.key for key in keys if key.needed],
             "additionalProperties": False,
+            **(_first_error() if name == "failure" else {}),
         }
 
     def _key(self, key: Key) -> Schema:
@@ -136,6 +138,16 @@ class _Maker:
                 condition = {"required": ["version"], "properties": {"version": {"const": version}}}
                 allof.append({"if": condition, "then": {"properties": properties}})
         return {"allOf": allof}
+
+
+def _first_error() -> Schema:
+    """A failure of FirstError has another in it, and no message. No other failure has one."""
+    is_first = {"required": ["fail"], "properties": {"fail": {"const": "FirstError"}}}
+    return {
+        "if": is_first,
+        "then": {"required": ["index", "sub"], "properties": {"message": {"const": ""}}},
+        "else": {"properties": {"index": False, "sub": False}},
+    }
 
 
 def _number(form: Form) -> Schema:

@@ -76,6 +76,30 @@ class Recorded(unittest.TestCase):
         body = {"do": [["callback", second, 4]], "end": ["return", "done"]}
         self.assertEqual(events[2:], [["addCallback", first, body], ["callback", first, 3]])
 
+    def test_a_failure_in_a_list_is_said_in_the_third_version(self) -> None:
+        def program() -> None:
+            first: defer.Deferred[Any] = defer.Deferred()
+            first.callback([(False, Failure(ValueError("no"))), (True, 1)])
+
+        told = [[False, {"fail": "ValueError", "message": "no"}], [True, 1]]
+        name, *events = [event[1:] for event in self.assert_said(program)]
+        self.assertEqual(events, [[name[0], told]])
+        self.assertEqual(json.loads(recorded(program).text)["version"], 3)
+
+    def test_the_results_of_a_list_that_a_program_passes_on(self) -> None:
+        def program() -> None:
+            child: defer.Deferred[Any] = defer.Deferred()
+            results: defer.Deferred[Any] = defer.Deferred()
+            both = defer.DeferredList([child, defer.succeed(2)], consumeErrors=True)
+            both.addCallback(lambda told: results.callback([told, "kept"]))
+            child.errback(ValueError("no"))
+
+        said = recorded(program)
+        told = [[False, {"fail": "ValueError", "message": "no"}], [True, 2]]
+        self.assert_said(program)
+        self.assertIn(json.dumps([told, "kept"], separators=(",", ":")), said.text)
+        self.assertEqual(json.loads(said.text)["version"], 3)
+
     def test_a_failure_that_a_body_catches_is_told_by_a_helper(self) -> None:
         def program() -> None:
             fired = defer.succeed(1)

@@ -72,12 +72,25 @@ class Bounded(unittest.TestCase):
             deep = [deep]
         self.assertEqual(str(shown(deep)), "[" * 20 + "'<list of 1>'" + "]" * 20)
 
-    def test_a_failure_in_a_value_is_a_text(self) -> None:
+    def test_a_failure_in_a_list_is_as_in_a_script(self) -> None:
         failure = Failure(ValueError("no"))
-        self.assertEqual(shown(failure), {"fail": "ValueError", "message": "no"})
-        self.assertEqual(shown([failure, (Failure(KeyError()), 1)]), ["<ValueError: no>", ["<KeyError>", 1]])
+        told, empty = {"fail": "ValueError", "message": "no"}, {"fail": "KeyError", "message": ""}
+        self.assertEqual(shown(failure), told)
+        self.assertEqual(shown([failure, (Failure(KeyError()), 1)]), [told, [empty, 1]])
         first = Failure(defer.FirstError(failure, 2))
-        self.assertEqual(shown([first]), ["<FirstError at 2 of <ValueError: no>>"])
+        self.assertEqual(shown([first]), [{"fail": "FirstError", "index": 2, "message": "", "sub": told}])
+
+    def test_a_failure_in_a_list_that_no_script_has_is_a_text(self) -> None:
+        class Below(defer.FirstError):
+            pass
+
+        failure = Failure(ValueError("no"))
+        [below] = shown([Failure(Below(failure, 2))])
+        self.assertRegex(below, r"(?s)^<Below: .* at 2 of <ValueError: no>>$")
+        for index in (-1, 2**32, "x", True):
+            self.assertEqual(shown([Failure(defer.FirstError(failure, index))]), [f"<FirstError at {index} of <ValueError: no>>"])
+        [inner] = shown([Failure(defer.FirstError(Failure(Below(failure, 1)), 0))])
+        self.assertRegex(inner, r"(?s)^<FirstError at 0 of <Below: .* at 1 of <ValueError: no>>>$")
 
     def test_what_twisted_makes_of_failures_is_the_same_where_the_program_makes_it(self) -> None:
         made = values().as_made([[False, {"fail": "ValueError", "message": "no"}], [True, 1]])

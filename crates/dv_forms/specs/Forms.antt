@@ -1,13 +1,18 @@
 -- Forms of JSON that the rules of the grammar share: calls, lists, keys, numbers, classes and values.
-use Rattle.std.specs.Prelude.{◌≡◌, ◌≤◌, ℕ, ℤ, Bool, true, ◌&&◌, ◌||◌, List, [], ◌∷◌, length, Option, Some, None}
-use Rattle.std.specs.Prelude.{unwrap_or, is_some, bytes_eq, codes}
+use Rattle.std.specs.Prelude.{◌≡◌, ◌≤◌, ℕ, ℤ, Bool, true, false, ◌&&◌, ◌||◌, List, [], ◌∷◌, length, Option, Some, None}
+use Rattle.std.specs.Prelude.{unwrap_or, is_some, option_and_then, bytes_eq, codes}
 use Rattle.std.specs.List.{list_any}
 use Rattle.serde_json.specs.Data.{Num, unsigned, Data, null, boolean, number, string, array, Items, no_items, item}
 use Rattle.serde_json.specs.Data.{Members, no_members, member}
-use Rattle.serde_json.specs.Find.{as_i64, as_str, get_member}
-use Rattle.dv_value.specs.declared.value.Value.{Value, Null, Bool as Flag, Int, Text, List as Values}
+use Rattle.serde_json.specs.Data.{object}
+use Rattle.serde_json.specs.Find.{as_i64, as_str, get, get_member}
+use Rattle.dv_value.specs.declared.value.Value.{Value, Null, Bool as Flag, Int, Text, List as Values, Fault}
+use Rattle.dv_value.specs.declared.failure.Failure.{Failure, roll-Failure}
+use Rattle.dv_value.specs.declared.failure.Sub.{roll-Sub}
 use Rattle.dv_value.specs.declared.classes.Class.{Class}
 use Rattle.dv_value.specs.Classes.{find_class}
+use Rattle.dv_value.specs.Failure.{plain_failure}
+use Rattle.dv_forms.specs.declared.failure.TheConstants.{MOST_INDEX}
 
 -- the items of an array
 abbrev pub items : List Data → Items
@@ -74,17 +79,67 @@ place_of name table = unwrap_or (find_class name table) (length table)
 abbrev pub IsClass : List Class → Data → ℕ → Type 0
 IsClass table d class = (name : List ℕ) × (d ≡ string name) × (class ≡ place_of name table)
 
-mutual
-  -- VALUE: null, a boolean, an integer of 64 bits, a text or an array of values
-  pub data IsValue : Data → Value → Type 0 where
-    a_null : IsValue null Null
-    a_bool : (b : Bool) → IsValue (boolean b) (Flag b)
-    an_int : (x : Num) (n : ℤ) → as_i64 x ≡ Some n → IsValue (number x) (Int n)
-    a_text : (text : List ℕ) → IsValue (string text) (Text text)
-    a_list : (ds : Items) (vs : List Value) → AreValues ds vs → IsValue (array ds) (Values vs)
+-- whether an object has no other keys than these
+unfoldable pub has_none_but : List (List ℕ) → Members → Bool
+has_none_but keys no_members = true
+has_none_but keys (member key d ms) = list_any (λ k. bytes_eq key k) keys && has_none_but keys ms
 
-  -- the items of an array of values
-  pub data AreValues : Items → List Value → Type 0 where
-    no_values : AreValues no_items []
-    more_values : (d : Data) (ds : Items) (v : Value) (vs : List Value) → IsValue d v → AreValues ds vs
-        → AreValues (item d ds) (v ∷ vs)
+-- the keys of a failure
+abbrev pub failure_keys : List (List ℕ)
+failure_keys = codes "fail" ∷ codes "message" ∷ []
+
+-- those of a failure of FirstError
+abbrev pub first_error_keys : List (List ℕ)
+first_error_keys = codes "fail" ∷ codes "index" ∷ codes "message" ∷ codes "sub" ∷ []
+
+-- whether this is the name of FirstError
+abbrev pub names_first_error : Option (List ℕ) → Bool
+names_first_error None = false
+names_first_error (Some name) = bytes_eq name (codes "FirstError")
+
+-- whether an object says the class FirstError, whose failures have another in them
+abbrev pub is_first_error : Data → Bool
+is_first_error d = names_first_error (option_and_then as_str (get (codes "fail") d))
+
+-- a failure of this class, with this one of the child of this number in it
+abbrev pub first_error : ℕ → ℕ → Failure → Failure
+first_error class index failure =
+    roll-Failure
+    (record { class = class; message = []; sub = Some (roll-Sub (record { index = index; failure = failure })) })
+
+-- FAILURE: a failure, as JSON shows it
+pub data IsFailure (table : List Class) : Data → Failure → Type 0 where
+  -- {"fail":CLASS,"message":TEXT}, of any class but FirstError
+  a_failure : (ms : Members) (class : ℕ) (message : List ℕ) → is_first_error (object ms) ≡ false
+      → has_none_but failure_keys ms ≡ true
+      → Key (IsClass table) (get_member (codes "fail") ms) class
+      → Key IsText (get_member (codes "message") ms) message
+      → IsFailure table (object ms) (plain_failure class message)
+  -- {"fail":"FirstError","index":I,"message":"","sub":FAILURE}
+  a_first_error : (ms : Members) (class index : ℕ) (d : Data) (f : Failure) → is_first_error (object ms) ≡ true
+      → has_none_but first_error_keys ms ≡ true
+      → Key (IsClass table) (get_member (codes "fail") ms) class
+      → Key (IsNumber 0 MOST_INDEX) (get_member (codes "index") ms) index
+      → Key IsText (get_member (codes "message") ms) []
+      → get_member (codes "sub") ms ≡ Some d → IsFailure table d f
+      → IsFailure table (object ms) (first_error class index f)
+
+mutual
+  -- VALUE: null, a boolean, an integer of 64 bits, a text or an array of values and failures
+  pub data IsValue (table : List Class) : Data → Value → Type 0 where
+    a_null : IsValue table null Null
+    a_bool : (b : Bool) → IsValue table (boolean b) (Flag b)
+    an_int : (x : Num) (n : ℤ) → as_i64 x ≡ Some n → IsValue table (number x) (Int n)
+    a_text : (text : List ℕ) → IsValue table (string text) (Text text)
+    a_list : (ds : Items) (vs : List Value) → AreMembers table ds vs → IsValue table (array ds) (Values vs)
+
+  -- a member of such an array
+  pub data IsMember (table : List Class) : Data → Value → Type 0 where
+    a_value : (d : Data) (v : Value) → IsValue table d v → IsMember table d v
+    a_fault : (d : Data) (f : Failure) → IsFailure table d f → IsMember table d (Fault f)
+
+  -- the items of such an array
+  pub data AreMembers (table : List Class) : Items → List Value → Type 0 where
+    no_more : AreMembers table no_items []
+    one_more : (d : Data) (ds : Items) (v : Value) (vs : List Value) → IsMember table d v → AreMembers table ds vs
+        → AreMembers table (item d ds) (v ∷ vs)

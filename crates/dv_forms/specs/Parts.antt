@@ -2,9 +2,12 @@
 -- follows.
 use Rattle.std.specs.Prelude.{ℕ, ℤ, Bool, ◌&&◌, nat_le, List, [], ◌∷◌, Option, Some, None, option_map, option_and_then}
 use Rattle.std.specs.Prelude.{if◌then◌else◌, ⊤, bytes_eq, codes}
-use Rattle.serde_json.specs.Data.{Data, null, boolean, number, string, array, object, Items, no_items, item}
-use Rattle.serde_json.specs.Find.{as_i64, as_u64, as_number, as_str, as_array}
-use Rattle.dv_value.specs.declared.value.Value.{Value, Null, Bool as Flag, Int, Text, List as Values}
+use Rattle.serde_json.specs.Data.{Data, null, boolean, number, string, array, object, Items, no_items, item, Members}
+use Rattle.serde_json.specs.Data.{no_members, member}
+use Rattle.serde_json.specs.Find.{as_i64, as_u64, as_number, as_str, as_array, get}
+use Rattle.dv_value.specs.declared.value.Value.{Value, Null, Bool as Flag, Int, Text, List as Values, Fault}
+use Rattle.dv_value.specs.declared.failure.Failure.{Failure}
+use Rattle.dv_value.specs.Failure.{plain_failure}
 use Rattle.dv_value.specs.declared.classes.Class.{Class}
 use Rattle.dv_script.specs.declared.action.ListFlag.{ListFlag}
 use Rattle.dv_script.specs.declared.action.ListFlag.TheVariants as flag
@@ -12,26 +15,14 @@ use Rattle.dv_script.specs.declared.action.GatherFlag.{GatherFlag}
 use Rattle.dv_script.specs.declared.action.GatherFlag.TheVariants as gather_flag
 use Rattle.dv_script.specs.declared.limits.TheConstants.{MOST_PLACES}
 use Rattle.dv_forms.specs.declared.declaration.Declaration.{Declaration}
-use Rattle.dv_forms.specs.Forms.{is_keyed_by, place_of}
+use Rattle.dv_forms.specs.declared.failure.TheConstants.{MOST_INDEX}
+use Rattle.dv_forms.specs.Forms.{is_keyed_by, place_of, has_none_but, failure_keys, first_error_keys, is_first_error}
+use Rattle.dv_forms.specs.Forms.{first_error}
 use Rattle.dv_forms.specs.Table.{table_of, all_declared}
 
 infixl 10 ◌>>=◌
 abbrev pub ◌>>=◌ : {A B : Type 0} → Option A → (A → Option B) → Option B
 o >>= f = option_and_then f o
-
-abbrev mutual
-  -- a value
-  pub value_at : Data → Option Value
-  value_at null = Some Null
-  value_at (boolean b) = Some (Flag b)
-  value_at (number x) = option_map Int (as_i64 x)
-  value_at (string text) = Some (Text text)
-  value_at (array ds) = option_map Values (values_at ds)
-  value_at (object ms) = None
-
-  pub values_at : Items → Option (List Value)
-  values_at no_items = Some []
-  values_at (item d ds) = option_and_then (λ v. option_map (λ vs. v ∷ vs) (values_at ds)) (value_at d)
 
 -- the items, each as it is read
 abbrev pub each : {X : Type 0} → (Data → Option X) → Items → Option (List X)
@@ -70,6 +61,90 @@ bound_at (object ms) = None
 -- the place of a class
 abbrev pub class_at : List Class → Data → Option ℕ
 class_at table d = option_map (λ name. place_of name table) (as_str d)
+
+-- an empty text
+abbrev pub no_text : List ℕ → Option ⊤
+no_text [] = Some tt
+no_text (b ∷ bs) = None
+
+abbrev pub empty_at : Data → Option ⊤
+empty_at d = option_and_then no_text (as_str d)
+
+-- an object with no other keys than these
+unfoldable pub bare_at : List (List ℕ) → Data → Option ⊤
+bare_at keys (object ms) = if has_none_but keys ms then Some tt else None
+bare_at keys _ = None
+
+-- a failure of any class but FirstError
+unfoldable pub plain_at : List Class → Data → Option Failure
+plain_at table d = do
+  _ ← bare_at failure_keys d
+  class ← get (codes "fail") d >>= class_at table
+  message ← get (codes "message") d >>= text_at
+  Some (plain_failure class message)
+
+-- the class and the place of a failure of FirstError
+unfoldable pub head_at : List Class → Data → Option (ℕ × ℕ)
+head_at table d = do
+  _ ← bare_at first_error_keys d
+  class ← get (codes "fail") d >>= class_at table
+  index ← get (codes "index") d >>= number_at 0 MOST_INDEX
+  _ ← get (codes "message") d >>= empty_at
+  Some (class, index)
+
+-- a failure of FirstError, with this one in it
+unfoldable pub first_error_by : List Class → Data → Option Failure → Option Failure
+first_error_by table d sub = do
+  head ← head_at table d
+  failure ← sub
+  Some (first_error head.0 head.1 failure)
+
+-- a failure, by its class
+abbrev pub failure_by : List Class → Data → Option Failure → Option Failure
+failure_by table d sub = if is_first_error d then first_error_by table d sub else plain_at table d
+
+abbrev mutual
+  -- a failure
+  pub failure_at : List Class → Data → Option Failure
+  failure_at table null = None
+  failure_at table (boolean b) = None
+  failure_at table (number x) = None
+  failure_at table (string text) = None
+  failure_at table (array ds) = None
+  failure_at table (object ms) = failure_by table (object ms) (sub_at table ms)
+
+  -- the failure at the key `sub`
+  pub sub_at : List Class → Members → Option Failure
+  sub_at table no_members = None
+  sub_at table (member key d ms) = if bytes_eq key (codes "sub") then failure_at table d else sub_at table ms
+
+-- a failure, as a value
+abbrev pub fault_at : List Class → Data → Option Value
+fault_at table d = option_map Fault (failure_at table d)
+
+abbrev mutual
+  -- a member of an array of a value: a value or a failure
+  pub member_at : List Class → Data → Option Value
+  member_at table null = Some Null
+  member_at table (boolean b) = Some (Flag b)
+  member_at table (number x) = option_map Int (as_i64 x)
+  member_at table (string text) = Some (Text text)
+  member_at table (array ds) = option_map Values (members_at table ds)
+  member_at table (object ms) = fault_at table (object ms)
+
+  pub members_at : List Class → Items → Option (List Value)
+  members_at table no_items = Some []
+  members_at table (item d ds) =
+      option_and_then (λ v. option_map (λ vs. v ∷ vs) (members_at table ds)) (member_at table d)
+
+-- a value, which is no object
+abbrev pub value_at : List Class → Data → Option Value
+value_at table null = member_at table null
+value_at table (boolean b) = member_at table (boolean b)
+value_at table (number x) = member_at table (number x)
+value_at table (string text) = member_at table (string text)
+value_at table (array ds) = member_at table (array ds)
+value_at table (object ms) = None
 
 -- a flag of a list, by its word
 abbrev pub list_flag : List ℕ → Option ListFlag

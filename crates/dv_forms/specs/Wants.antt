@@ -1,6 +1,7 @@
 -- What the parts of what a place asks for are asked to be, but for the arguments of words.
 use Rattle.std.specs.Prelude.{ℕ, nat_eq, nat_lt, if◌then◌else◌, List, [], ◌∷◌, bytes_eq, codes}
-use Rattle.dv_forms.specs.declared.want.Object.TheVariants as object
+use Rattle.serde_json.specs.Data.{Data, null, boolean, number, string, array, object}
+use Rattle.dv_forms.specs.declared.want.Object.TheVariants as named
 use Rattle.dv_forms.specs.declared.want.Leaf.TheVariants as leaf
 use Rattle.dv_forms.specs.declared.want.Call.TheVariants as call
 use Rattle.dv_forms.specs.declared.want.Pair.{Pair}
@@ -15,18 +16,19 @@ use Rattle.dv_clock.specs.declared.limits.TheConstants.{MOST_DELAY}
 use Rattle.dv_script.specs.declared.limits.TheConstants.{MOST_PLACE, MOST_UNITS, MOST_WORKERS}
 use Rattle.dv_forms.specs.Limits.{most_limit}
 use Rattle.dv_forms.specs.declared.versions.TheConstants.{BODIES_SINCE, LAST_VERSION}
+use Rattle.dv_forms.specs.declared.failure.TheConstants.{MOST_INDEX}
 
 -- the name of a Deferred that is looked up
 abbrev pub a_deferred : Want
-a_deferred = want.Leaf (leaf.Found object.Deferred)
+a_deferred = want.Leaf (leaf.Found named.Deferred)
 
 -- the name of a pool that is looked up
 abbrev pub a_pool : Want
-a_pool = want.Leaf (leaf.Found object.Pool)
+a_pool = want.Leaf (leaf.Found named.Pool)
 
 -- the name of a class that is looked up
 abbrev pub a_class : Want
-a_class = want.Leaf (leaf.Found object.Class)
+a_class = want.Leaf (leaf.Found named.Class)
 
 -- any text
 abbrev pub a_text : Want
@@ -86,11 +88,29 @@ body_want key =
     if bytes_eq key (codes "end") then want.Call call.End else
     if bytes_eq key (codes "comment") then a_comment else want.Other keyed.Body
 
+-- what the value of a failure's key is
+abbrev pub failure_want : List ℕ → Want
+failure_want key =
+    if bytes_eq key (codes "fail") then a_class else
+    if bytes_eq key (codes "index") then want.Leaf (leaf.Number 0 MOST_INDEX) else
+    if bytes_eq key (codes "message") then a_text else
+    if bytes_eq key (codes "sub") then want.Keyed keyed.Failure else want.Other keyed.Failure
+
+-- what a member of an array of a value is: a failure where an object stands
+abbrev pub member_want : Data → Want
+member_want null = want.Value
+member_want (boolean b) = want.Value
+member_want (number x) = want.Value
+member_want (string text) = want.Value
+member_want (array ds) = want.Value
+member_want (object ms) = want.Keyed keyed.Failure
+
 -- what the value of an object's key is
 abbrev pub key_want : Keyed → List ℕ → Want
 key_want (keyed.Script version) key = script_want version key
 key_want keyed.Cooperator key = cooperator_want key
 key_want keyed.Body key = body_want key
+key_want keyed.Failure key = failure_want key
 
 -- the keys that an object may have, in the order in which they are looked at
 abbrev pub keys_in : Keyed → List (List ℕ)
@@ -102,12 +122,13 @@ keys_in (keyed.Script version) =
     else codes "bodies" ∷ codes "callers" ∷ codes "events" ∷ codes "comment" ∷ []))
 keys_in keyed.Cooperator = codes "units" ∷ codes "delay" ∷ codes "comment" ∷ []
 keys_in keyed.Body = codes "do" ∷ codes "end" ∷ codes "comment" ∷ []
+keys_in keyed.Failure = codes "fail" ∷ codes "index" ∷ codes "message" ∷ codes "sub" ∷ []
 
 -- the parts of a pair
 abbrev pub pair_wants : Pair → List Want
-pair_wants pair.Declaration = want.Leaf (leaf.New object.Class) ∷ a_text ∷ []
-pair_wants pair.Pool = want.Leaf (leaf.New object.Pool) ∷ want.Leaf (leaf.Number 0 MOST_WORKERS) ∷ []
-pair_wants pair.Body = want.Leaf (leaf.New object.Body) ∷ a_body ∷ []
+pair_wants pair.Declaration = want.Leaf (leaf.New named.Class) ∷ a_text ∷ []
+pair_wants pair.Pool = want.Leaf (leaf.New named.Pool) ∷ want.Leaf (leaf.Number 0 MOST_WORKERS) ∷ []
+pair_wants pair.Body = want.Leaf (leaf.New named.Body) ∷ a_body ∷ []
 
 -- the callers of a script
 abbrev pub all_callers : Want

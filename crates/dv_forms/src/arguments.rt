@@ -34,10 +34,10 @@ pub fn one_text(alloc: Global, arguments: &[Json]) -> Result<Text, Stop>
 
 /// A value alone.
 #[tactic(auto, unfolding(crate::specs::Parts::sole))]
-pub fn one_value(alloc: Global, arguments: &[Json]) -> Result<Value, Stop>
-    ensures { Reads result (sole value_at (items_view arguments.now)) }
+pub fn one_value(alloc: Global, classes: &Classes, arguments: &[Json]) -> Result<Value, Stop>
+    ensures { Reads result (sole (value_at classes.now) (items_view arguments.now)) }
 {
-    value(alloc, one(arguments)?)
+    value(alloc, classes, one(arguments)?)
 }
 
 /// An integer of 64 bits alone.
@@ -85,12 +85,16 @@ pub fn two_texts(alloc: Global, arguments: &[Json]) -> Result<(Text, Text), Stop
 
 /// A name, and a value.
 #[tactic(auto, unfolding(crate::specs::Parts::pair))]
-pub fn named_value(alloc: Global, arguments: &[Json]) -> Result<(Text, Value), Stop>
-    ensures { Reads result (pair text_at value_at (items_view arguments.now)) }
+pub fn named_value(
+    alloc: Global,
+    classes: &Classes,
+    arguments: &[Json],
+) -> Result<(Text, Value), Stop>
+    ensures { Reads result (pair text_at (value_at classes.now) (items_view arguments.now)) }
 {
     let (name, json) = two(arguments)?;
     let name = text(alloc, name)?;
-    let value = value(alloc, json)?;
+    let value = value(alloc, classes, json)?;
     Ok((name, value))
 }
 
@@ -139,11 +143,12 @@ pub fn classes_and_value(
     arguments: &[Json],
 ) -> Result<(Items<ClassId>, Value), Stop>
     ensures { Reads result
-        (pair (list_at (class_at classes.now)) value_at (items_view arguments.now)) }
+        (pair (list_at (class_at classes.now)) (value_at classes.now)
+        (items_view arguments.now)) }
 {
     let (names, json) = two(arguments)?;
     let listed = classes_in(alloc, classes, names)?;
-    let value = value(alloc, json)?;
+    let value = value(alloc, classes, json)?;
     Ok((listed, value))
 }
 

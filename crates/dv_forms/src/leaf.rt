@@ -350,7 +350,8 @@ fn is_comment(json: Option<&Json>) -> bool
     }
 }
 
-fn is_among(key: &str, keys: &[&str]) -> bool
+/// Whether a key is one of these.
+pub fn is_among(key: &str, keys: &[&str]) -> bool
     ensures { result ≡ list_any (λ k. bytes_eq key.now k) (map (λ k. k.now) keys.now) }
 {
     for k in keys {

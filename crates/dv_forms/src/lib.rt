@@ -4,6 +4,7 @@
 
 pub mod arguments;
 pub mod declaration;
+pub mod failure;
 pub mod leaf;
 pub mod leaving;
 pub mod limits;

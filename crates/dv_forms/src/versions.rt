@@ -14,3 +14,6 @@ pub const BODIES_SINCE: u32 = 3;
 
 /// The first version in which an object may have a comment.
 pub const COMMENTS_SINCE: u32 = 3;
+
+/// The first version in which a member of an array of a value may be a failure.
+pub const FAILURES_SINCE: u32 = 3;

@@ -2,12 +2,15 @@
 
 ghost use Rattle.std.specs.Prelude.{◌≡◌, map};
 ghost use Rattle.dv_forms.specs.Wants.{item_want, key_want, keys_in, script_want, cooperator_want};
-ghost use Rattle.dv_forms.specs.Wants.{body_want, pair_wants};
+ghost use Rattle.serde_json.specs.View.{view};
+ghost use Rattle.dv_forms.specs.Wants.{body_want, failure_want, member_want, pair_wants};
 
+use crate::failure::MOST_INDEX;
 use crate::limits::most_limit;
 use crate::versions::{BODIES_SINCE, LAST_VERSION};
 use dv_clock::limits::MOST_DELAY;
 use dv_script::limits::{MOST_PLACE, MOST_UNITS, MOST_WORKERS};
+use serde_json::Value as Json;
 
 /// What has a name.
 #[derive(Clone, Copy, Drop)]
@@ -76,6 +79,8 @@ pub enum Keyed {
     Script(u32),
     Cooperator,
     Body,
+    /// A failure that is a member of an array of a value, or that is in one.
+    Failure,
 }
 
 /// What each item of an array is.
@@ -203,6 +208,30 @@ fn body_want(key: &str) -> Want
     }
 }
 
+fn failure_want(key: &str) -> Want
+    ensures { result ≡ failure_want key.now }
+{
+    match key {
+        "fail" => Want::Leaf(Leaf::Found(Object::Class)),
+        "index" => Want::Leaf(Leaf::Number(0, MOST_INDEX as u64)),
+        "message" => Want::Leaf(Leaf::Text),
+        "sub" => Want::Keyed(Keyed::Failure),
+        _ => Want::Other(Keyed::Failure),
+    }
+}
+
+/// What the place of this member of an array of a value asks for: a failure where an object stands,
+/// and else a value.
+pub fn member_want(json: &Json) -> Want
+    ensures { result ≡ member_want (view json.now) }
+{
+    match json {
+        Json::Null | Json::Bool(_) | Json::Number(_) | Json::String(_) | Json::Array(_) =>
+            Want::Value,
+        Json::Object(_) => Want::Keyed(Keyed::Failure),
+    }
+}
+
 impl Keyed {
     /// What the place of the value of this key asks for.
     pub fn want(self, key: &str) -> Want
@@ -212,6 +241,7 @@ impl Keyed {
             Keyed::Script(version) => script_want(version, key),
             Keyed::Cooperator => cooperator_want(key),
             Keyed::Body => body_want(key),
+            Keyed::Failure => failure_want(key),
         }
     }
 
@@ -252,6 +282,7 @@ impl Keyed {
             ],
             Keyed::Cooperator => &["units", "delay", "comment"],
             Keyed::Body => &["do", "end", "comment"],
+            Keyed::Failure => &["fail", "index", "message", "sub"],
         }
     }
 }

@@ -206,7 +206,7 @@ module _ (table : List Class) (r : Readers) (sound : AreSound table r) where
   sound_words =
       maker_read &
       maker_read &
-      named_with table value_at IsValue sound_value Callback (codes "callback") callback &
+      named_with table (value_at table) (IsValue table) (sound_value table) Callback (codes "callback") callback &
       named_with_two table (class_at table) (IsClass table) (class_is table) text_at IsText text_is Errback
       (codes "errback") (λ n c f class text c_is f_is. rw f_is (errback n c class text c_is)) &
       named_with table r.body (IsBody table) sound.body AddCallback (codes "addCallback") add_callback &
@@ -235,7 +235,7 @@ module _ (table : List Class) (r : Readers) (sound : AreSound table r) where
       named_with_two table text_at IsText text_is r.body (IsBody table) sound.body RunWith (codes "runWith")
       (λ n c f l b c_is b_is. rw c_is (run_with n l f b b_is)) &
       named_with_two table bound_at IsBound bound_is bound_at IsBound bound_is Queue (codes "queue") queue &
-      named_with table value_at IsValue sound_value Put (codes "put") put &
+      named_with table (value_at table) (IsValue table) (sound_value table) Put (codes "put") put &
       named_twice table Get (codes "get") get &
       named_with_two table (number_at 0 MOST_DELAY) (IsNumber 0 MOST_DELAY) (number_is 0 MOST_DELAY) r.body
       (IsBody table) sound.body Later (codes "later") later &
@@ -355,7 +355,7 @@ mutual
       → action_at table n d ≡ Some a
   complete_action table n (deferred name) h = refl
   complete_action table n (deferred_with name d canceller g) h = rw (complete_body table n g (omega (arith, h))) refl
-  complete_action table n (callback name d v g) h = rw (complete_value g) refl
+  complete_action table n (callback name d v g) h = rw (complete_value table g) refl
   complete_action table n (errback name c class text g) h = rw (complete_class table c class g) refl
   complete_action table n (add_callback name d side g) h = rw (complete_body table n g (omega (arith, h))) refl
   complete_action table n (add_errback name d side g) h = rw (complete_body table n g (omega (arith, h))) refl
@@ -384,7 +384,7 @@ mutual
   complete_action table n (run_with name other d b g) h = rw (complete_body table n g (omega (arith, h))) refl
   complete_action table n (queue name c e size backlog g k) h =
       rw (complete_bound c size g, complete_bound e backlog k) refl
-  complete_action table n (put name d v g) h = rw (complete_value g) refl
+  complete_action table n (put name d v g) h = rw (complete_value table g) refl
   complete_action table n (get name other) h = refl
   complete_action table n (later name c d delay b g k) h =
       rw (complete_number 0 MOST_DELAY c delay g, complete_body table n k (omega (arith, h))) refl

@@ -1,13 +1,18 @@
 -- What holds of values, leaves, ends and works: what is read is in the grammar, and what is in the grammar is read.
+use Rattle.std.proofs.Common.{Ordering, Less, Equal, Greater, is_eq, nat_cmp, ap, option_map, if◌then◌else◌, false}
+use Rattle.std.specs.Ordering.{match_ordering}
+use Rattle.std.specs.Cmp.Lexicographic.{slice_cmp}
+use Rattle.std.proofs.lemmas.Map.Text.{is_eq-slice_cmp}
 use Rattle.std.proofs.Common.{◌≡◌, ℕ, ◌≤◌, ℤ, Bool, true, ◌&&◌, nat_le, cond, List, [], ◌∷◌, Option, Some, None}
 use Rattle.std.proofs.Common.{option_and_then, bytes_eq, refl, sym, ◌∙◌, codes, ◌⊎◌, inl, inr}
 use Rattle.std.specs.Prelude.{⊤}
 use Rattle.std.proofs.lemmas.Slice.Eq.{bytes_eq-Decides}
 use Rattle.std.proofs.lemmas.Bool.{and_parts, leb-true, le-leb}
 use Rattle.serde_json.specs.Data.{unsigned, negative, float, Data, null, boolean, number, string, array, object, Items}
-use Rattle.serde_json.specs.Data.{no_items, item, Members}
-use Rattle.serde_json.specs.Find.{as_i64, as_bool, as_array}
-use Rattle.dv_value.specs.declared.value.Value.{Value}
+use Rattle.serde_json.specs.Data.{no_items, item, Members, no_members, member}
+use Rattle.serde_json.specs.Find.{as_i64, as_bool, as_array, get_member}
+use Rattle.dv_value.specs.declared.value.Value.{Value, Null, Bool as Flag, Int, Text, List as Values, Fault}
+use Rattle.dv_value.specs.declared.failure.Failure.{Failure}
 use Rattle.dv_value.specs.declared.classes.Class.{Class}
 use Rattle.dv_script.specs.declared.body.End.{End}
 use Rattle.dv_script.specs.declared.body.End.TheVariants.{Return, Plus, Raise, Trap, Wait, Run, Throw}
@@ -16,7 +21,10 @@ use Rattle.dv_script.specs.declared.action.ListFlag.{ListFlag}
 use Rattle.dv_script.specs.declared.action.GatherFlag.{GatherFlag}
 use Rattle.dv_script.specs.declared.limits.TheConstants.{MOST_PLACE, MOST_PLACES, MOST_SUM}
 use Rattle.dv_forms.specs.Forms.{Each, IsList, Field, Key, is_keyed_by, IsText, IsInteger, IsNumber, IsClass, IsValue}
-use Rattle.dv_forms.specs.Forms.{a_null, a_bool, an_int, a_text, a_list, AreValues, no_values, more_values}
+use Rattle.dv_forms.specs.Forms.{a_null, a_bool, an_int, a_text, a_list, IsMember, a_value, a_fault, AreMembers}
+use Rattle.dv_forms.specs.Forms.{no_more, one_more, IsFailure, a_failure, a_first_error, is_first_error, has_none_but}
+use Rattle.dv_forms.specs.Forms.{failure_keys, first_error_keys}
+use Rattle.dv_forms.specs.declared.failure.TheConstants.{MOST_INDEX}
 use Rattle.dv_forms.specs.Leaving.{may_leave}
 use Rattle.dv_forms.specs.declared.words.EndWord.{EndWord}
 use Rattle.dv_forms.specs.declared.words.WorkWord.{WorkWord}
@@ -24,11 +32,13 @@ use Rattle.dv_forms.specs.Words.{end_word, end_words, work_word, work_words}
 use Rattle.dv_grammar.specs.Grammar.{IsEnd, returns, passes, adds, raises, traps, waits, runs, throws, IsWork, gives, fails, sums}
 use Rattle.dv_grammar.specs.Grammar.{IsListFlag, fires_on_callback, fires_on_errback, consumes_errors, IsGatherFlag}
 use Rattle.dv_grammar.specs.Grammar.{gathers_errors, IsBound, no_bound, a_bound}
-use Rattle.dv_forms.specs.Parts.{value_at, values_at, each, list_at, text_at, integer_at, number_at, within, bound_at}
+use Rattle.dv_forms.specs.Parts.{empty_at, bare_at, plain_at, head_at, first_error_by, failure_at}
+use Rattle.dv_forms.specs.Parts.{sub_at, member_at, members_at}
+use Rattle.dv_forms.specs.Parts.{value_at, each, list_at, text_at, integer_at, number_at, within, bound_at}
 use Rattle.dv_forms.specs.Parts.{class_at, list_flag_at, gather_flag_at, call_at, none, first, if_any, one, two, three}
 use Rattle.dv_forms.specs.Parts.{four, five, sole, pair, triple, one_of, two_of, three_of, fields_at, field}
 use Rattle.dv_grammar.specs.Shape.{end_at, end_of, leave_at, work_at, work_of}
-use Rattle.dv_grammar.proofs.Steps.{some_injective, bind, mapped, chosen}
+use Rattle.dv_grammar.proofs.Steps.{some_injective, bind, mapped, chosen, either_way}
 use Rattle.dv_grammar.proofs.WordsLemmas.{◌&◌, EachWord, found_word}
 use Rattle.dv_script.specs.declared.work.Work.TheVariants as job
 use Rattle.dv_script.specs.declared.action.ListFlag.TheVariants as flag
@@ -201,24 +211,7 @@ gather_flag_is (string text) x e =
     word_found IsGatherFlag text (codes "consumeErrors") gather_flag.ConsumeErrors x _ gathers_errors (λ g. cc) e
 gather_flag_is _ x e = cc
 
--- ---- values, lists and fields
-
-mutual
-  pub sound_value : (d : Data) (v : Value) → value_at d ≡ Some v → IsValue d v
-  sound_value null v e = rw (← (some_injective e)) a_null
-  sound_value (boolean b) v e = rw (← (some_injective e)) (a_bool b)
-  sound_value (number x) v e = mapped (as_i64 x) _ v e (λ n n_is n_then. rw (← n_then) (an_int x n n_is))
-  sound_value (string text) v e = rw (← (some_injective e)) (a_text text)
-  sound_value (array ds) v e =
-      mapped (values_at ds) _ v e (λ vs vs_is vs_then. rw (← vs_then) (a_list ds vs (sound_values ds vs vs_is)))
-  sound_value (object ms) v e = cc
-
-  pub sound_values : (ds : Items) (vs : List Value) → values_at ds ≡ Some vs → AreValues ds vs
-  sound_values no_items vs e = rw (← (some_injective e)) no_values
-  sound_values (item d ds) vs e =
-      bind (value_at d) _ vs e (λ v v_is v_then.
-      mapped (values_at ds) _ vs v_then (λ us us_is us_then.
-      rw (← us_then) (more_values d ds v us (sound_value d v v_is) (sound_values ds us us_is))))
+-- ---- lists and fields
 
 pub sound_each : {X : Type 0} (Is : Data → X → Type 0) (at : Data → Option X)
     → ((d : Data) (x : X) → at d ≡ Some x → Is d x)
@@ -255,6 +248,147 @@ fields_is keys ms t e = elim (chosen (is_keyed_by keys ms) (Some tt) None (Some 
   | inr h ↦ cc
 ]
 
+-- ---- failures and values
+
+pub empty_is : (d : Data) (t : ⊤) → empty_at d ≡ Some t → IsText d []
+empty_is (string []) t e = refl
+empty_is (string (b ∷ bs)) t e = cc
+empty_is _ t e = cc
+
+empty_key : (o : Option Data) (t : ⊤) → option_and_then empty_at o ≡ Some t → Key IsText o []
+empty_key None t e = cc
+empty_key (Some d) t e = empty_is d t e
+
+bare_is : (keys : List (List ℕ)) (ms : Members) (t : ⊤) → bare_at keys (object ms) ≡ Some t
+    → has_none_but keys ms ≡ true
+unfolding bare_at
+bare_is keys ms t e = elim (chosen (has_none_but keys ms) (Some tt) None (Some t) e) [
+  | inl h ↦ h.0
+  | inr h ↦ cc
+]
+
+-- a failure at the key `sub`
+pub record IsSub (table : List Class) (ms : Members) (f : Failure) : Type 0 where
+  pub d : Data
+  pub there : get_member (codes "sub") ms ≡ Some d
+  pub is : IsFailure table d f
+
+plain_is : (table : List Class) (ms : Members) (f : Failure) → is_first_error (object ms) ≡ false
+    → plain_at table (object ms) ≡ Some f → IsFailure table (object ms) f
+unfolding plain_at
+plain_is table ms f other e =
+    bind (bare_at failure_keys (object ms)) _ f e (λ t t_is t_then.
+    bind (option_and_then (class_at table) (get_member (codes "fail") ms)) _ f t_then (λ c c_is c_then.
+    bind (option_and_then text_at (get_member (codes "message") ms)) _ f c_then (λ m m_is m_then.
+    rw (← some_injective m_then) (a_failure ms c m other (bare_is failure_keys ms t t_is)
+    (sound_key c (IsClass table) (class_at table) (class_is table) (get_member (codes "fail") ms) c_is)
+    (sound_key m IsText text_at text_is (get_member (codes "message") ms) m_is)))))
+
+first_error_is : (table : List Class) (ms : Members) (f : Failure) (sub : Option Failure)
+    → is_first_error (object ms) ≡ true
+    → first_error_by table (object ms) sub ≡ Some f → ((g : Failure) → sub ≡ Some g → IsSub table ms g)
+    → IsFailure table (object ms) f
+unfolding first_error_by head_at
+first_error_is table ms f sub first e inner =
+    bind (head_at table (object ms)) _ f e (λ h h_is h_then.
+    bind (bare_at first_error_keys (object ms)) _ h h_is (λ t t_is t_then.
+    bind (option_and_then (class_at table) (get_member (codes "fail") ms)) _ h t_then (λ c c_is c_then.
+    bind (option_and_then (number_at 0 MOST_INDEX) (get_member (codes "index") ms)) _ h c_then (λ i i_is i_then.
+    bind (option_and_then empty_at (get_member (codes "message") ms)) _ h i_then (λ m m_is m_then.
+    bind sub _ f h_then (λ g g_is g_then.
+    let s = inner g g_is in
+    rw (← some_injective g_then, ← some_injective m_then)
+    (a_first_error ms c i s.d g first (bare_is first_error_keys ms t t_is)
+    (sound_key c (IsClass table) (class_at table) (class_is table) (get_member (codes "fail") ms) c_is)
+    (sound_key i (IsNumber 0 MOST_INDEX) (number_at 0 MOST_INDEX) (number_is 0 MOST_INDEX)
+    (get_member (codes "index") ms) i_is)
+    (empty_key (get_member (codes "message") ms) m m_is) s.there s.is)))))))
+
+-- what a key is worth that is, or isn't, that of a member
+is_there : (o : Ordering) (rest : Option Data) (d : Data) → is_eq o ≡ true
+    → match_ordering o rest (Some d) rest ≡ Some d
+is_there Less rest d e = cc
+is_there Equal rest d e = refl
+is_there Greater rest d e = cc
+
+is_further : (o : Ordering) (rest : Option Data) (d : Data) → is_eq o ≡ false
+    → match_ordering o rest (Some d) rest ≡ rest
+is_further Less rest d e = refl
+is_further Equal rest d e = cc
+is_further Greater rest d e = refl
+
+turned : (xs ys : List ℕ) (b c : Bool) → bytes_eq xs ys ≡ b → bytes_eq ys xs ≡ c → c ≡ b
+turned xs ys true true e g = refl
+turned xs ys false false e g = refl
+turned xs ys true false e g =
+    let same : bytes_eq ys xs ≡ true = (bytes_eq-Decides ys xs).1 (sym ((bytes_eq-Decides xs ys).0 e)) in cc
+turned xs ys false true e g =
+    let same : bytes_eq xs ys ≡ true = (bytes_eq-Decides xs ys).1 (sym ((bytes_eq-Decides ys xs).0 g)) in cc
+
+sub_key : (key : List ℕ) (b : Bool) → bytes_eq key (codes "sub") ≡ b
+    → is_eq (slice_cmp nat_cmp (codes "sub") key) ≡ b
+sub_key key b e =
+    is_eq-slice_cmp (codes "sub") key ∙ turned key (codes "sub") b (bytes_eq (codes "sub") key) e refl
+
+mutual
+  pub sound_failure : (table : List Class) (d : Data) (f : Failure) → failure_at table d ≡ Some f → IsFailure table d f
+  sound_failure table (object ms) f e =
+      either_way (is_first_error (object ms)) (first_error_by table (object ms) (sub_at table ms))
+      (plain_at table (object ms)) (Some f) e
+      (λ first g. first_error_is table ms f (sub_at table ms) first g (λ s s_is. sound_sub table ms s s_is))
+      (λ other g. plain_is table ms f other g)
+  sound_failure table _ f e = cc
+
+  sound_sub : (table : List Class) (ms : Members) (f : Failure) → sub_at table ms ≡ Some f → IsSub table ms f
+  sound_sub table no_members f e = cc
+  sound_sub table (member key d ms) f e =
+      either_way (bytes_eq key (codes "sub")) (failure_at table d) (sub_at table ms) (Some f) e
+      (λ same g. record {
+        d = d;
+        there =
+            is_there (slice_cmp nat_cmp (codes "sub") key) (get_member (codes "sub") ms) d (sub_key key true same);
+        is = sound_failure table d f g;
+      })
+      (λ other g. let s = sound_sub table ms f g in record {
+        d = s.d;
+        there =
+            is_further (slice_cmp nat_cmp (codes "sub") key) (get_member (codes "sub") ms) d
+            (sub_key key false other) ∙ s.there;
+        is = s.is;
+      })
+
+mutual
+  sound_member : (table : List Class) (d : Data) (v : Value) → member_at table d ≡ Some v → IsMember table d v
+  sound_member table null v e = rw (← (some_injective e)) (a_value null Null a_null)
+  sound_member table (boolean b) v e = rw (← (some_injective e)) (a_value (boolean b) (Flag b) (a_bool b))
+  sound_member table (number x) v e =
+      mapped (as_i64 x) _ v e (λ n n_is n_then. rw (← n_then) (a_value (number x) (Int n) (an_int x n n_is)))
+  sound_member table (string text) v e = rw (← (some_injective e)) (a_value (string text) (Text text) (a_text text))
+  sound_member table (array ds) v e =
+      mapped (members_at table ds) _ v e (λ vs vs_is vs_then.
+      rw (← vs_then) (a_value (array ds) (Values vs) (a_list ds vs (sound_members table ds vs vs_is))))
+  sound_member table (object ms) v e =
+      mapped (failure_at table (object ms)) _ v e
+      (λ f f_is f_then. rw (← f_then) (a_fault (object ms) f (sound_failure table (object ms) f f_is)))
+
+  sound_members : (table : List Class) (ds : Items) (vs : List Value) → members_at table ds ≡ Some vs
+      → AreMembers table ds vs
+  sound_members table no_items vs e = rw (← (some_injective e)) no_more
+  sound_members table (item d ds) vs e =
+      bind (member_at table d) _ vs e (λ v v_is v_then.
+      mapped (members_at table ds) _ vs v_then (λ us us_is us_then.
+      rw (← us_then) (one_more d ds v us (sound_member table d v v_is) (sound_members table ds us us_is))))
+
+pub sound_value : (table : List Class) (d : Data) (v : Value) → value_at table d ≡ Some v → IsValue table d v
+sound_value table null v e = rw (← (some_injective e)) a_null
+sound_value table (boolean b) v e = rw (← (some_injective e)) (a_bool b)
+sound_value table (number x) v e = mapped (as_i64 x) _ v e (λ n n_is n_then. rw (← n_then) (an_int x n n_is))
+sound_value table (string text) v e = rw (← (some_injective e)) (a_text text)
+sound_value table (array ds) v e =
+    mapped (members_at table ds) _ v e
+    (λ vs vs_is vs_then. rw (← vs_then) (a_list ds vs (sound_members table ds vs vs_is)))
+sound_value table (object ms) v e = cc
+
 -- ---- ends and works
 
 -- what the word of this end reads as is in the grammar
@@ -266,7 +400,8 @@ pub sound_ends : (table : List Class) → EachWord (IsEndRead table) end_words
 unfolding end_of
 sound_ends table =
     (λ ds x e.
-    one_read value_at Return ds x e (λ d v ds_is v_is made. rw (ds_is, ← made) (returns d v (sound_value d v v_is)))) &
+    one_read (value_at table) Return ds x e
+    (λ d v ds_is v_is made. rw (ds_is, ← made) (returns d v (sound_value table d v v_is)))) &
     (λ ds x e. bind (none ds) _ x e (λ t t_is t_then. rw (none_is ds t t_is, ← some_injective t_then) passes)) &
     (λ ds x e.
     one_read integer_at Plus ds x e (λ d n ds_is n_is made. rw (ds_is, ← made) (adds d n (integer_is d n n_is)))) &
@@ -275,9 +410,9 @@ sound_ends table =
     (λ ds x e. one_read (list_at (number_at 0 MOST_PLACE)) Throw ds x e (λ d path ds_is path_is made.
     rw (ds_is, ← made) (throws d path (sound_list (IsNumber 0 MOST_PLACE) (number_at 0 MOST_PLACE)
     (number_is 0 MOST_PLACE) d path path_is)))) &
-    (λ ds x e. two_read (list_at (class_at table)) value_at Trap ds x e (λ d f cs v ds_is cs_is v_is made.
+    (λ ds x e. two_read (list_at (class_at table)) (value_at table) Trap ds x e (λ d f cs v ds_is cs_is v_is made.
     rw (ds_is, ← made) (traps d cs f v (sound_list (IsClass table) (class_at table) (class_is table) d cs cs_is)
-    (sound_value f v v_is)))) &
+    (sound_value table f v v_is)))) &
     (λ ds x e. one_read text_at Wait ds x e (λ d n ds_is n_is made. rw (ds_is, text_is d n n_is, ← made) (waits n))) &
     (λ ds x e. one_read text_at Run ds x e (λ d n ds_is n_is made. rw (ds_is, text_is d n n_is, ← made) (runs n))) &
     tt
@@ -308,7 +443,8 @@ pub sound_works : (table : List Class) → EachWord (IsWorkRead table) work_word
 unfolding work_of
 sound_works table =
     (λ ds x e.
-    one_read value_at job.Value ds x e (λ d v ds_is v_is made. rw (ds_is, ← made) (gives d v (sound_value d v v_is)))) &
+    one_read (value_at table) job.Value ds x e
+    (λ d v ds_is v_is made. rw (ds_is, ← made) (gives d v (sound_value table d v v_is)))) &
     (λ ds x e. two_read (class_at table) text_at job.Raise ds x e
     (λ d f c t ds_is c_is t_is made. rw (ds_is, text_is f t t_is, ← made) (fails d c t (class_is table d c c_is)))) &
     (λ ds x e. one_read (number_at 0 MOST_SUM) job.Sum ds x e
@@ -322,19 +458,7 @@ sound_work table d x e =
     bind (work_word c.0) _ x c_then (λ w w_is w_then.
     rw (call_is d c c_is) (found_word (IsWorkRead table) work_words (sound_works table) c.0 w w_is c.1 x w_then)))
 
--- ---- values, lists, leaves
-
-mutual
-  pub complete_value : {d : Data} {v : Value} → IsValue d v → value_at d ≡ Some v
-  complete_value a_null = refl
-  complete_value (a_bool b) = refl
-  complete_value (an_int x n e) = rw e refl
-  complete_value (a_text text) = refl
-  complete_value (a_list ds vs h) = rw (complete_values h) refl
-
-  pub complete_values : {ds : Items} {vs : List Value} → AreValues ds vs → values_at ds ≡ Some vs
-  complete_values no_values = refl
-  complete_values (more_values d ds v vs h hs) = rw (complete_value h, complete_values hs) refl
+-- ---- lists, leaves
 
 pub complete_each : {X : Type 0} (Is : Data → X → Type 0) (at : Data → Option X)
     → ((d : Data) (x : X) → Is d x → at d ≡ Some x)
@@ -377,6 +501,81 @@ complete_within low high n h k = rw (le-leb low n h, le-leb n high k) refl
 pub complete_number : (low high : ℕ) (d : Data) (n : ℕ) → IsNumber low high d n → number_at low high d ≡ Some n
 complete_number low high d n h = rw h.0 (complete_within low high n h.1 h.2)
 
+-- ---- failures and values
+
+empty_there : (o : Option Data) → Key IsText o [] → option_and_then empty_at o ≡ Some tt
+empty_there None h = absurd h
+empty_there (Some d) h = rw h refl
+
+sub_by : (table : List Class) (key : List ℕ) (c : Data) (ms : Members) (d : Data)
+    → get_member (codes "sub") (member key c ms) ≡ Some d
+    → (b : Bool) → bytes_eq key (codes "sub") ≡ b
+    → (get_member (codes "sub") ms ≡ Some d → sub_at table ms ≡ failure_at table d)
+    → (if b then failure_at table c else sub_at table ms) ≡ failure_at table d
+sub_by table key c ms d is true e later =
+    ap (failure_at table) (some_injective (sym
+    (is_there (slice_cmp nat_cmp (codes "sub") key) (get_member (codes "sub") ms) c (sub_key key true e)) ∙ is))
+sub_by table key c ms d is false e later =
+    later (sym (is_further (slice_cmp nat_cmp (codes "sub") key) (get_member (codes "sub") ms) c (sub_key key false e))
+    ∙ is)
+
+-- what stands at the key `sub` is read there
+sub_there : (table : List Class) (ms : Members) (d : Data) → get_member (codes "sub") ms ≡ Some d
+    → sub_at table ms ≡ failure_at table d
+sub_there table no_members d is = cc
+sub_there table (member key c ms) d is =
+    sub_by table key c ms d is (bytes_eq key (codes "sub")) refl (λ further. sub_there table ms d further)
+
+pub complete_failure : (table : List Class) {d : Data} {f : Failure} → IsFailure table d f → failure_at table d ≡ Some f
+unfolding plain_at first_error_by head_at bare_at
+complete_failure table (a_failure ms class message other bare c m) = rw (
+  other,
+  bare,
+  complete_key class (IsClass table) (class_at table) (complete_class table) (get_member (codes "fail") ms) c,
+  complete_key message IsText text_at complete_text (get_member (codes "message") ms) m,
+) refl
+complete_failure table (a_first_error ms class index d f first bare c i m there g) = rw (
+  first,
+  bare,
+  complete_key class (IsClass table) (class_at table) (complete_class table) (get_member (codes "fail") ms) c,
+  complete_key index (IsNumber 0 MOST_INDEX) (number_at 0 MOST_INDEX) (complete_number 0 MOST_INDEX)
+      (get_member (codes "index") ms) i,
+  empty_there (get_member (codes "message") ms) m,
+  sub_there table ms d there,
+  complete_failure table g,
+) refl
+
+complete_fault : (table : List Class) {d : Data} {f : Failure} → IsFailure table d f
+    → member_at table d ≡ Some (Fault f)
+complete_fault table (a_failure ms class message other bare c m) =
+    ap (option_map Fault) (complete_failure table (a_failure ms class message other bare c m))
+complete_fault table (a_first_error ms class index d f first bare c i m there g) =
+    ap (option_map Fault) (complete_failure table (a_first_error ms class index d f first bare c i m there g))
+
+mutual
+  complete_inner : (table : List Class) {d : Data} {v : Value} → IsValue table d v → member_at table d ≡ Some v
+  complete_inner table a_null = refl
+  complete_inner table (a_bool b) = refl
+  complete_inner table (an_int x n e) = rw e refl
+  complete_inner table (a_text text) = refl
+  complete_inner table (a_list ds vs h) = rw (complete_members table h) refl
+
+  complete_member : (table : List Class) {d : Data} {v : Value} → IsMember table d v → member_at table d ≡ Some v
+  complete_member table (a_value d v h) = complete_inner table h
+  complete_member table (a_fault d f h) = complete_fault table h
+
+  complete_members : (table : List Class) {ds : Items} {vs : List Value} → AreMembers table ds vs
+      → members_at table ds ≡ Some vs
+  complete_members table no_more = refl
+  complete_members table (one_more d ds v vs h hs) = rw (complete_member table h, complete_members table hs) refl
+
+pub complete_value : (table : List Class) {d : Data} {v : Value} → IsValue table d v → value_at table d ≡ Some v
+complete_value table a_null = refl
+complete_value table (a_bool b) = refl
+complete_value table (an_int x n e) = rw e refl
+complete_value table (a_text text) = refl
+complete_value table (a_list ds vs h) = rw (complete_members table h) refl
+
 pub complete_bound : (d : Data) (bound : Option ℕ) → IsBound d bound → bound_at d ≡ Some bound
 complete_bound _ _ no_bound = refl
 complete_bound _ _ (a_bound d n h) = rw h.0 (rw (complete_within 0 MOST_PLACES n h.1 h.2) refl)
@@ -391,11 +590,11 @@ complete_gather_flag _ _ gathers_errors = refl
 
 pub complete_end : (table : List Class) (d : Data) (e : End) → IsEnd table d e → end_at table d ≡ Some e
 unfolding end_at end_of call_at none first one two sole pair
-complete_end table _ _ (returns d v h) = rw (complete_value h) refl
+complete_end table _ _ (returns d v h) = rw (complete_value table h) refl
 complete_end table _ _ passes = refl
 complete_end table _ _ (adds d n h) = rw (h.1, h.2) refl
 complete_end table _ _ (raises c class text h) = rw (complete_class table c class h) refl
-complete_end table _ _ (traps c classes d v h g) = rw (complete_classes table c classes h, complete_value g) refl
+complete_end table _ _ (traps c classes d v h g) = rw (complete_classes table c classes h, complete_value table g) refl
 complete_end table _ _ (waits name) = refl
 complete_end table _ _ (runs name) = refl
 complete_end table _ _ (throws d path h) =
@@ -403,6 +602,6 @@ complete_end table _ _ (throws d path h) =
 
 pub complete_work : (table : List Class) (d : Data) (w : Work) → IsWork table d w → work_at table d ≡ Some w
 unfolding work_at work_of call_at none first one two sole pair
-complete_work table _ _ (gives d v h) = rw (complete_value h) refl
+complete_work table _ _ (gives d v h) = rw (complete_value table h) refl
 complete_work table _ _ (fails c class text h) = rw (complete_class table c class h) refl
 complete_work table _ _ (sums d n h) = rw (complete_number 0 MOST_SUM d n h) refl

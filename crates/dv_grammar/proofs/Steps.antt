@@ -20,6 +20,11 @@ pub chosen : {A : Type 0} (b : Bool) (x y z : A) → cond b x y ≡ z → ((b �
 chosen true x y z e = inl (refl, e)
 chosen false x y z e = inr e
 
+pub either_way : {A P : Type 0} (b : Bool) (x y z : A) → cond b x y ≡ z → (b ≡ true → x ≡ z → P)
+    → (b ≡ false → y ≡ z → P) → P
+either_way true x y z e k l = k refl e
+either_way false x y z e k l = l refl e
+
 pub picked : {A : Type 0} (o : Ordering) (rest : Option A) (x y : A) → match_ordering o rest (Some x) rest ≡ Some y
     → (rest ≡ Some y) ⊎ (x ≡ y)
 picked Less rest x y e = inl e

@@ -64,7 +64,7 @@ keys_of version =
 -- END: how a body gives its result
 pub data IsEnd (table : List Class) : Data → End → Type 0 where
   -- ["return",VALUE]
-  returns : (d : Data) (v : Value) → IsValue d v → IsEnd table (call (codes "return") (d ∷ [])) (Return v)
+  returns : (d : Data) (v : Value) → IsValue table d v → IsEnd table (call (codes "return") (d ∷ [])) (Return v)
   -- ["pass"]
   passes : IsEnd table (call (codes "pass") []) Pass
   -- ["plus",N]
@@ -73,7 +73,7 @@ pub data IsEnd (table : List Class) : Data → End → Type 0 where
   raises : (c : Data) (class : ℕ) (text : List ℕ) → IsClass table c class
       → IsEnd table (call (codes "raise") (c ∷ string text ∷ [])) (Raise class text)
   -- ["trap",[CLASS..],VALUE]
-  traps : (c : Data) (classes : List ℕ) (d : Data) (v : Value) → IsList (IsClass table) c classes → IsValue d v
+  traps : (c : Data) (classes : List ℕ) (d : Data) (v : Value) → IsList (IsClass table) c classes → IsValue table d v
       → IsEnd table (call (codes "trap") (c ∷ d ∷ [])) (Trap classes v)
   -- ["wait",D]
   waits : (name : List ℕ) → IsEnd table (call (codes "wait") (string name ∷ [])) (Wait name)
@@ -86,7 +86,7 @@ pub data IsEnd (table : List Class) : Data → End → Type 0 where
 -- WORK: what a thread does
 pub data IsWork (table : List Class) : Data → Work → Type 0 where
   -- ["value",VALUE]
-  gives : (d : Data) (v : Value) → IsValue d v → IsWork table (call (codes "value") (d ∷ [])) (work.Value v)
+  gives : (d : Data) (v : Value) → IsValue table d v → IsWork table (call (codes "value") (d ∷ [])) (work.Value v)
   -- ["raise",CLASS,TEXT]
   fails : (c : Data) (class : ℕ) (text : List ℕ) → IsClass table c class
       → IsWork table (call (codes "raise") (c ∷ string text ∷ [])) (work.Raise class text)
@@ -119,7 +119,7 @@ mutual
     deferred_with : (name : List ℕ) (d : Data) (canceller : Body) → IsBody table d canceller
         → IsAction table (call (codes "deferred") (string name ∷ d ∷ [])) (Deferred name (Some canceller))
     -- ["callback",D,VALUE]
-    callback : (name : List ℕ) (d : Data) (v : Value) → IsValue d v
+    callback : (name : List ℕ) (d : Data) (v : Value) → IsValue table d v
         → IsAction table (call (codes "callback") (string name ∷ d ∷ [])) (Callback name v)
     -- ["errback",D,CLASS,TEXT]
     errback : (name : List ℕ) (c : Data) (class : ℕ) (text : List ℕ) → IsClass table c class
@@ -180,7 +180,7 @@ mutual
     queue : (name : List ℕ) (c e : Data) (size backlog : Option ℕ) → IsBound c size → IsBound e backlog
         → IsAction table (call (codes "queue") (string name ∷ c ∷ e ∷ [])) (Queue name size backlog)
     -- ["put",Q,VALUE]
-    put : (name : List ℕ) (d : Data) (v : Value) → IsValue d v
+    put : (name : List ℕ) (d : Data) (v : Value) → IsValue table d v
         → IsAction table (call (codes "put") (string name ∷ d ∷ [])) (Put name v)
     -- ["get",D,Q]
     get : (name queue : List ℕ) → IsAction table (call (codes "get") (string name ∷ string queue ∷ [])) (Get name queue)

@@ -49,13 +49,13 @@ use Rattle.dv_grammar.specs.Grammar.{body_keys, cooperator_keys, keys_of, plain_
 
 -- an end, by its word
 unfoldable pub end_of : List Class → EndWord → Items → Option End
-end_of table end.Return ds = one_of value_at Return ds
+end_of table end.Return ds = one_of (value_at table) Return ds
 end_of table end.Pass ds = do
   _ ← none ds
   Some Pass
 end_of table end.Plus ds = one_of integer_at Plus ds
 end_of table end.Raise ds = two_of (class_at table) text_at Raise ds
-end_of table end.Trap ds = two_of (list_at (class_at table)) value_at Trap ds
+end_of table end.Trap ds = two_of (list_at (class_at table)) (value_at table) Trap ds
 end_of table end.Wait ds = one_of text_at Wait ds
 end_of table end.Run ds = one_of text_at Run ds
 end_of table end.Throw ds = one_of (list_at (number_at 0 MOST_PLACE)) Throw ds
@@ -75,7 +75,7 @@ leave_at table d = do
 
 -- a work, by its word
 unfoldable pub work_of : List Class → WorkWord → Items → Option Work
-work_of table work.Value ds = one_of value_at job.Value ds
+work_of table work.Value ds = one_of (value_at table) job.Value ds
 work_of table work.Raise ds = two_of (class_at table) text_at job.Raise ds
 work_of table work.Sum ds = one_of (number_at 0 MOST_SUM) job.Sum ds
 
@@ -126,7 +126,7 @@ with_body with.Maybe = Maybe
 unfoldable pub action_of : List Class → (Data → Option Body) → (Data → Option Statement) → ActionWord → Items
     → Option Action
 action_of table body statement word.Deferred ds = new_deferred_of body ds
-action_of table body statement word.Callback ds = two_of text_at value_at Callback ds
+action_of table body statement word.Callback ds = two_of text_at (value_at table) Callback ds
 action_of table body statement word.Errback ds = three_of text_at (class_at table) text_at Errback ds
 action_of table body statement word.AddCallback ds = two_of text_at body AddCallback ds
 action_of table body statement word.AddErrback ds = two_of text_at body AddErrback ds
@@ -147,7 +147,7 @@ action_of table body statement word.Acquire ds = two_of text_at text_at Acquire 
 action_of table body statement word.Release ds = one_of text_at Release ds
 action_of table body statement word.RunWith ds = three_of text_at text_at body RunWith ds
 action_of table body statement word.Queue ds = three_of text_at bound_at bound_at Queue ds
-action_of table body statement word.Put ds = two_of text_at value_at Put ds
+action_of table body statement word.Put ds = two_of text_at (value_at table) Put ds
 action_of table body statement word.Get ds = two_of text_at text_at Get ds
 action_of table body statement word.Later ds = three_of text_at (number_at 0 MOST_DELAY) body Later ds
 action_of table body statement word.CancelCall ds = one_of text_at CancelCall ds

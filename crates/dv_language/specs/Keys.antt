@@ -3,7 +3,7 @@ use Rattle.std.specs.Prelude.{ℕ, Bool, true, false, not, if◌then◌else◌, 
 use Rattle.std.specs.Prelude.{codes}
 use Rattle.serde_json.specs.Data.{Data, unsigned, number, boolean, string, array, object, member, no_members}
 use Rattle.serde_json.specs.View.{items_of}
-use Rattle.dv_forms.specs.declared.versions.TheConstants.{COMMENTS_SINCE, LAST_VERSION}
+use Rattle.dv_forms.specs.declared.versions.TheConstants.{COMMENTS_SINCE, FAILURES_SINCE, LAST_VERSION}
 use Rattle.dv_forms.specs.declared.want.Leaf.{Leaf}
 use Rattle.dv_forms.specs.declared.want.Leaf.TheVariants as leaf
 use Rattle.dv_forms.specs.declared.want.Keyed.{Keyed}
@@ -18,6 +18,7 @@ abbrev pub is_needed : Keyed → List ℕ → Bool
 is_needed (keyed.Script version) key = bytes_eq key (codes "version") || bytes_eq key (codes "events")
 is_needed keyed.Cooperator key = not (bytes_eq key (codes "comment"))
 is_needed keyed.Body key = false
+is_needed keyed.Failure key = bytes_eq key (codes "fail") || bytes_eq key (codes "message")
 
 -- whether a leaf is a comment
 abbrev pub is_comment : Leaf → Bool
@@ -48,6 +49,7 @@ abbrev pub since : Keyed → List ℕ → ℕ
 since (keyed.Script version) key = since_by (key_want (keyed.Script 1) key)
 since keyed.Cooperator key = since_by (key_want keyed.Cooperator key)
 since keyed.Body key = since_by (key_want keyed.Body key)
+since keyed.Failure key = FAILURES_SINCE
 
 -- a key
 abbrev pub key_data : Keyed → List ℕ → Data
@@ -61,6 +63,8 @@ key_data k key =
 abbrev pub keys_of : Keyed → List Data
 keys_of k = map (key_data k) (keys_in k)
 
--- the keys of a script, of its cooperator and of a body, as the last version has them
+-- the keys of a script, of its cooperator, of a body and of a failure in a value, as the last version has them
 abbrev pub keys_data : Data
-keys_data = array (items_of (keys_of (keyed.Script LAST_VERSION) ++ (keys_of keyed.Cooperator ++ keys_of keyed.Body)))
+keys_data = array (items_of (
+    keys_of (keyed.Script LAST_VERSION)
+    ++ (keys_of keyed.Cooperator ++ (keys_of keyed.Body ++ keys_of keyed.Failure))))

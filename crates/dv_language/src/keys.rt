@@ -5,7 +5,7 @@ ghost use Rattle.serde_json.specs.View.{view};
 ghost use Rattle.dv_language.specs.Keys.{is_needed, since, since_by, key_data, keys_of, keys_data};
 
 use crate::wants::{keyed_name, want_json};
-use dv_forms::versions::{COMMENTS_SINCE, LAST_VERSION};
+use dv_forms::versions::{COMMENTS_SINCE, FAILURES_SINCE, LAST_VERSION};
 use dv_forms::want::{Keyed, Leaf, Want};
 use serde_json::{Value as Json, json, push};
 use std::alloc::{AllocError, Global};
@@ -18,6 +18,7 @@ fn is_needed(keyed: Keyed, key: &str) -> bool
         Keyed::Script(_) => key == "version" || key == "events",
         Keyed::Cooperator => key != "comment",
         Keyed::Body => false,
+        Keyed::Failure => key == "fail" || key == "message",
     }
 }
 
@@ -49,6 +50,7 @@ fn since(keyed: Keyed, key: &str) -> u32
     match keyed {
         Keyed::Script(_) => since_by(Keyed::Script(1).want(key)),
         Keyed::Cooperator | Keyed::Body => since_by(keyed.want(key)),
+        Keyed::Failure => FAILURES_SINCE,
     }
 }
 
@@ -75,7 +77,8 @@ fn push_keys(alloc: Global, rows: &mut Vec<Json>, keyed: Keyed) -> Result<(), Al
     Ok(())
 }
 
-/// The keys of a script, of its `cooperator` and of a body, as the last version has them.
+/// The keys of a script, of its `cooperator`, of a body and of a failure in a value, as the last
+/// version has them.
 pub fn keys_json(alloc: Global) -> Result<Json, AllocError>
     ensures { IfOk result (λ json. view json ≡ keys_data) }
 {
@@ -83,5 +86,6 @@ pub fn keys_json(alloc: Global) -> Result<Json, AllocError>
     push_keys(alloc, &mut rows, Keyed::Script(LAST_VERSION))?;
     push_keys(alloc, &mut rows, Keyed::Cooperator)?;
     push_keys(alloc, &mut rows, Keyed::Body)?;
+    push_keys(alloc, &mut rows, Keyed::Failure)?;
     Ok(Json::Array(rows))
 }

@@ -52,6 +52,7 @@ pub fn keyed_name(keyed: Keyed) -> &'static str
         Keyed::Script(_) => "script",
         Keyed::Cooperator => "cooperator",
         Keyed::Body => "body",
+        Keyed::Failure => "failure",
     }
 }
 

@@ -11,11 +11,12 @@ use Rattle.dv_forms.specs.declared.want.Want.TheVariants as want
 use Rattle.dv_forms.specs.declared.want.Leaf.{Leaf}
 use Rattle.dv_forms.specs.declared.want.Call.{Call}
 use Rattle.dv_forms.specs.declared.want.Keyed.{Keyed}
-use Rattle.dv_forms.specs.Wants.{item_want, key_want, keys_in, pair_wants}
+use Rattle.dv_forms.specs.Wants.{item_want, key_want, keys_in, member_want, pair_wants}
 use Rattle.dv_forms.specs.Words.{wants_of}
 use Rattle.dv_questions.specs.Questions.{Asked, words, names, classes, pools, bodies, every, stands, is_named}
 use Rattle.dv_questions.specs.Questions.{is_known, is_pooled, is_declared}
-use Rattle.dv_questions.specs.Asking.{count, if_there, each_item, one_for_one, arguments_suit, word_suits, call_suits}
+use Rattle.dv_questions.specs.Asking.{count, if_there, each_item, each_member, one_for_one, arguments_suit, word_suits}
+use Rattle.dv_questions.specs.Asking.{call_suits}
 use Rattle.dv_questions.specs.Asking.{keys_suit, in_parts, all_suit}
 
 both : {a b : Bool} → a ≡ true → b ≡ true → (a && b) ≡ true
@@ -25,6 +26,7 @@ both h k = rw (h, k) refl
 pub record IsWeaker (a b : Asked) : Type 0 where
   pub leaf : (l : Leaf) (x : List ℕ) → a.of_leaf l x ≡ true → b.of_leaf l x ≡ true
   pub word : (c : Call) (x : List ℕ) → a.of_word c x ≡ true → b.of_word c x ≡ true
+  pub object : (k : Keyed) → a.of_object k ≡ true → b.of_object k ≡ true
 
 -- what is good in the first way is in the second
 abbrev pub Leads : (Want → Data → Bool) → (Want → Data → Bool) → Type 0
@@ -39,6 +41,12 @@ each_too : (f g : Data → Bool) → ((d : Data) → f d ≡ true → g d ≡ tr
     → each_item g ds ≡ true
 each_too f g k no_items h = refl
 each_too f g k (item d ds) h = let p = and_parts (f d) (each_item f ds) h in both (k d p.0) (each_too f g k ds p.1)
+
+member_too : (f g : Want → Data → Bool) → Leads f g → (ds : Items) → each_member f ds ≡ true → each_member g ds ≡ true
+member_too f g k no_items h = refl
+member_too f g k (item d ds) h =
+    let p = and_parts (f (member_want d) d) (each_member f ds) h in
+    both (k (member_want d) d p.0) (member_too f g k ds p.1)
 
 one_too : (f g : Want → Data → Bool) → Leads f g → (ws : List Want) (ds : Items) → one_for_one f ws ds ≡ true
     → one_for_one g ws ds ≡ true
@@ -72,13 +80,15 @@ keys_too f g k o d (key ∷ keys) h =
 parts_too : (a b : Asked) (f g : Want → Data → Bool) → IsWeaker a b → Leads f g → (w : Want) (d : Data)
     → in_parts a f w d ≡ true → in_parts b g w d ≡ true
 parts_too a b f g weak k (want.Leaf l) d h = there_too (a.of_leaf l) (b.of_leaf l) (weak.leaf l) (as_str d) h
-parts_too a b f g weak k want.Value d h = refl
+parts_too a b f g weak k want.Value d h = there_too (each_member f) (each_member g) (member_too f g k) (as_array d) h
 parts_too a b f g weak k (want.Call c) d h =
     there_too (call_suits a f c) (call_suits b g c) (call_too a b f g weak k c) (as_array d) h
 parts_too a b f g weak k (want.Pair p) d h =
     there_too (one_for_one f (pair_wants p)) (one_for_one g (pair_wants p)) (one_too f g k (pair_wants p))
     (as_array d) h
-parts_too a b f g weak k (want.Keyed o) d h = keys_too f g k o d (keys_in o) h
+parts_too a b f g weak k (want.Keyed o) d h =
+    let p = and_parts (a.of_object o) (keys_suit f o d (keys_in o)) h in
+    both (weak.object o p.0) (keys_too f g k o d (keys_in o) p.1)
 parts_too a b f g weak k (want.Array i) d h =
     there_too (each_item (f (item_want i))) (each_item (g (item_want i)))
     (each_too (f (item_want i)) (g (item_want i)) (k (item_want i))) (as_array d) h
@@ -112,6 +122,7 @@ pub words_too : (v : ℕ) (table : List Class) (declared : List NamedPool) (name
 words_too v table declared named = record {
   leaf = λ l x h. (five_parts v table declared named l x h).0;
   word = λ c x h. h;
+  object = λ k h. h;
 }
 
 pub names_too : (v : ℕ) (table : List Class) (declared : List NamedPool) (named : List NamedBody)
@@ -119,6 +130,7 @@ pub names_too : (v : ℕ) (table : List Class) (declared : List NamedPool) (name
 names_too v table declared named = record {
   leaf = λ l x h. (five_parts v table declared named l x h).1;
   word = λ c x h. refl;
+  object = λ k h. refl;
 }
 
 pub classes_too : (v : ℕ) (table : List Class) (declared : List NamedPool) (named : List NamedBody)
@@ -126,6 +138,7 @@ pub classes_too : (v : ℕ) (table : List Class) (declared : List NamedPool) (na
 classes_too v table declared named = record {
   leaf = λ l x h. (five_parts v table declared named l x h).2;
   word = λ c x h. refl;
+  object = λ k h. refl;
 }
 
 pub pools_too : (v : ℕ) (table : List Class) (declared : List NamedPool) (named : List NamedBody)
@@ -133,6 +146,7 @@ pub pools_too : (v : ℕ) (table : List Class) (declared : List NamedPool) (name
 pools_too v table declared named = record {
   leaf = λ l x h. (five_parts v table declared named l x h).3;
   word = λ c x h. refl;
+  object = λ k h. refl;
 }
 
 pub bodies_too : (v : ℕ) (table : List Class) (declared : List NamedPool) (named : List NamedBody)
@@ -140,4 +154,5 @@ pub bodies_too : (v : ℕ) (table : List Class) (declared : List NamedPool) (nam
 bodies_too v table declared named = record {
   leaf = λ l x h. (five_parts v table declared named l x h).4;
   word = λ c x h. refl;
+  object = λ k h. refl;
 }

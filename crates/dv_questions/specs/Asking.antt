@@ -1,12 +1,12 @@
--- A question is asked of each text of a value, by the table of words: of what each place asks for.
-use Rattle.std.specs.Prelude.{ℕ, zero, suc, Bool, true, ◌&&◌, List, [], ◌∷◌, Option, Some, None}
-use Rattle.serde_json.specs.Data.{Data, Items, no_items, item}
+-- A question is asked of each text and each object of a value, by the table of words: of what each place asks for.
+use Rattle.std.specs.Prelude.{ℕ, zero, suc, Bool, true, false, ◌&&◌, List, [], ◌∷◌, Option, Some, None}
+use Rattle.serde_json.specs.Data.{Data, null, boolean, number, string, array, object, Items, no_items, item}
 use Rattle.serde_json.specs.Find.{as_str, as_array, get}
 use Rattle.dv_forms.specs.declared.want.Want.{Want}
 use Rattle.dv_forms.specs.declared.want.Want.TheVariants as want
 use Rattle.dv_forms.specs.declared.want.Call.{Call}
 use Rattle.dv_forms.specs.declared.want.Keyed.{Keyed}
-use Rattle.dv_forms.specs.Wants.{item_want, key_want, keys_in, pair_wants}
+use Rattle.dv_forms.specs.Wants.{item_want, key_want, keys_in, member_want, pair_wants}
 use Rattle.dv_forms.specs.Words.{wants_of}
 use Rattle.dv_questions.specs.Questions.{Asked}
 
@@ -24,6 +24,20 @@ if_there good (Some x) = good x
 abbrev pub each_item : (Data → Bool) → Items → Bool
 each_item good no_items = true
 each_item good (item d ds) = good d && each_item good ds
+
+-- whether a value is neither an array nor an object
+abbrev pub is_scalar : Data → Bool
+is_scalar null = true
+is_scalar (boolean b) = true
+is_scalar (number x) = true
+is_scalar (string text) = true
+is_scalar (array ds) = false
+is_scalar (object ms) = false
+
+-- of each member of an array of a value
+abbrev pub each_member : (Want → Data → Bool) → Items → Bool
+each_member good no_items = true
+each_member good (item d ds) = good (member_want d) d && each_member good ds
 
 -- of the items for which something is asked, one for one
 abbrev pub one_for_one : (Want → Data → Bool) → List Want → Items → Bool
@@ -54,10 +68,10 @@ keys_suit good k d (key ∷ keys) = if_there (good (key_want k key)) (get key d)
 -- question asks of
 abbrev pub in_parts : Asked → (Want → Data → Bool) → Want → Data → Bool
 in_parts a good (want.Leaf l) d = if_there (a.of_leaf l) (as_str d)
-in_parts a good want.Value d = true
+in_parts a good want.Value d = if_there (each_member good) (as_array d)
 in_parts a good (want.Call c) d = if_there (call_suits a good c) (as_array d)
 in_parts a good (want.Pair p) d = if_there (one_for_one good (pair_wants p)) (as_array d)
-in_parts a good (want.Keyed k) d = keys_suit good k d (keys_in k)
+in_parts a good (want.Keyed k) d = a.of_object k && keys_suit good k d (keys_in k)
 in_parts a good (want.Array i) d = if_there (each_item (good (item_want i))) (as_array d)
 in_parts a good (want.Word c) d = if_there (a.of_word c) (as_str d)
 in_parts a good (want.Other k) d = true

@@ -1,4 +1,4 @@
--- What may be asked of the texts of a script, each at a place that asks for a leaf or for a word.
+-- What may be asked of a script: of its texts, each at a place that asks for a leaf or for a word, and of its objects.
 use Rattle.std.specs.Prelude.{ℕ, Bool, true, false, not, ◌&&◌, ◌||◌, nat_le, List, is_some, bytes_eq}
 use Rattle.std.specs.List.{list_any}
 use Rattle.dv_value.specs.declared.classes.Class.{Class}
@@ -10,8 +10,10 @@ use Rattle.dv_forms.specs.declared.want.Object.TheVariants as object
 use Rattle.dv_forms.specs.declared.want.Leaf.{Leaf}
 use Rattle.dv_forms.specs.declared.want.Leaf.TheVariants as leaf
 use Rattle.dv_forms.specs.declared.want.Call.{Call}
+use Rattle.dv_forms.specs.declared.want.Keyed.{Keyed}
+use Rattle.dv_forms.specs.declared.want.Keyed.TheVariants as keyed
 use Rattle.dv_forms.specs.Words.{may_stand}
-use Rattle.dv_forms.specs.declared.versions.TheConstants.{COMMENTS_SINCE}
+use Rattle.dv_forms.specs.declared.versions.TheConstants.{COMMENTS_SINCE, FAILURES_SINCE}
 use Rattle.dv_questions.specs.declared.question.Question.{Question}
 use Rattle.dv_questions.specs.declared.question.Question.TheVariants as question
 use Rattle.dv_questions.specs.Names.{is_name, names_one}
@@ -54,6 +56,13 @@ stands version leaf.Bound = true
 stands version leaf.ListFlag = true
 stands version leaf.GatherFlag = true
 stands version leaf.Comment = nat_le COMMENTS_SINCE version
+
+-- whether such an object may stand in a script of this version: only a failure needs a later one
+abbrev pub object_stands : ℕ → Keyed → Bool
+object_stands version (keyed.Script v) = true
+object_stands version keyed.Cooperator = true
+object_stands version keyed.Body = true
+object_stands version keyed.Failure = nat_le FAILURES_SINCE version
 
 -- whether a class is looked up there
 abbrev pub is_class : Leaf → Bool
@@ -138,30 +147,35 @@ has_body name bodies = list_any (λ body. bytes_eq body.name name) bodies
 abbrev pub is_declared : List NamedBody → Leaf → List ℕ → Bool
 is_declared bodies l name = not (is_body l) || has_body name bodies
 
--- a question: what it asks of a text at the place of a leaf, and of the word of a call
+-- a question: what it asks of a text at the place of a leaf, of the word of a call, and of an object
 pub record Asked : Type 0 where
   pub of_leaf : Leaf → List ℕ → Bool
   pub of_word : Call → List ℕ → Bool
+  pub of_object : Keyed → Bool
 
--- whether each word is one of this version, and each comment
+-- whether each word is one of this version, each comment, and each failure in a value
 abbrev pub words : ℕ → Asked
-words version = record { of_leaf = λ l text. stands version l; of_word = λ c word. may_stand c word version }
+words version = record {
+  of_leaf = λ l text. stands version l;
+  of_word = λ c word. may_stand c word version;
+  of_object = object_stands version;
+}
 
 -- whether each name has the form of one of this version
 abbrev pub names : ℕ → Asked
-names version = record { of_leaf = is_named version; of_word = λ c word. true }
+names version = record { of_leaf = is_named version; of_word = λ c word. true; of_object = λ k. true }
 
 -- whether each class that is used is in this table
 abbrev pub classes : List Class → Asked
-classes table = record { of_leaf = is_known table; of_word = λ c word. true }
+classes table = record { of_leaf = is_known table; of_word = λ c word. true; of_object = λ k. true }
 
 -- whether each pool that is used is one of these
 abbrev pub pools : List NamedPool → Asked
-pools declared = record { of_leaf = is_pooled declared; of_word = λ c word. true }
+pools declared = record { of_leaf = is_pooled declared; of_word = λ c word. true; of_object = λ k. true }
 
 -- whether each body that is used by its name is one of these
 abbrev pub bodies : List NamedBody → Asked
-bodies named = record { of_leaf = is_declared named; of_word = λ c word. true }
+bodies named = record { of_leaf = is_declared named; of_word = λ c word. true; of_object = λ k. true }
 
 -- all five
 abbrev pub every : ℕ → List Class → List NamedPool → List NamedBody → Asked
@@ -170,6 +184,7 @@ every version table declared named = record {
       stands version l && is_named version l name && is_known table l name && is_pooled declared l name
       && is_declared named l name;
   of_word = λ c word. may_stand c word version;
+  of_object = object_stands version;
 }
 
 -- the question, as the code has it

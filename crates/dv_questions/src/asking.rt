@@ -1,16 +1,17 @@
-//! Asks a question of each text of a JSON value, by the table of words.
+//! Asks a question of each text and each object of a JSON value, by the table of words.
 
 ghost use Rattle.std.specs.Prelude.{◌≡◌, ◌≤◌, ℕ, true, option_and_then};
 ghost use Rattle.serde_json.specs.View.{view, items_view};
 ghost use Rattle.serde_json.specs.Find.{as_array, as_str, get};
-ghost use Rattle.dv_forms.specs.Wants.{key_want, keys_in};
+ghost use Rattle.dv_forms.specs.Wants.{key_want, keys_in, member_want};
 ghost use Rattle.dv_forms.specs.Words.{may_stand};
-ghost use Rattle.dv_questions.specs.Asking.{all_suit, call_suits, each_item, if_there, keys_suit};
-ghost use Rattle.dv_questions.specs.Asking.{one_for_one, word_suits};
+ghost use Rattle.dv_questions.specs.Asking.{all_suit, call_suits, each_item, each_member};
+ghost use Rattle.dv_questions.specs.Asking.{if_there, is_scalar, keys_suit, one_for_one};
+ghost use Rattle.dv_questions.specs.Asking.{word_suits};
 ghost use Rattle.dv_questions.specs.Questions.{asked_by};
 
 use crate::question::Question;
-use dv_forms::want::{Call, Keyed, Leaf, Want};
+use dv_forms::want::{Call, Keyed, Leaf, Want, member_want};
 use dv_forms::words::form_of;
 use serde_json::Value as Json;
 
@@ -32,8 +33,8 @@ fn first_suits(question: &Question<'_>, call: Call, json: &Json) -> bool
     }
 }
 
-/// Whether each text of the value answers the question well, at a place that asks for this. Below
-/// so many levels nothing is asked.
+/// Whether each text and each object of the value answers the question well, at a place that asks
+/// for this. Below so many levels nothing is asked.
 #[cycle(ask)]
 #[tactic(auto, unfolding(crate::specs::Asking::all_suit))]
 pub fn all_suit(question: &Question<'_>, levels: u32, want: Want, json: &Json) -> bool
@@ -44,7 +45,7 @@ pub fn all_suit(question: &Question<'_>, levels: u32, want: Want, json: &Json) -
     }
     match want {
         Want::Leaf(leaf) => leaf_suits(question, leaf, json),
-        Want::Value | Want::Other(_) => true,
+        Want::Other(_) => true,
         Want::Call(call) => match json {
             Json::Array(parts) => call_suits(question, levels - 1, call, parts.as_slice()),
             Json::Null | Json::Bool(_) | Json::Number(_) | Json::String(_) | Json::Object(_) =>
@@ -55,14 +56,57 @@ pub fn all_suit(question: &Question<'_>, levels: u32, want: Want, json: &Json) -
             Json::Null | Json::Bool(_) | Json::Number(_) | Json::String(_) | Json::Object(_) =>
                 true,
         },
-        Want::Keyed(keyed) => keys_suit(question, levels - 1, keyed, json),
+        Want::Keyed(keyed) => {
+            question.of_object(keyed) && keys_suit(question, levels - 1, keyed, json)
+        }
         Want::Array(item) => match json {
             Json::Array(items) => { each_item(question, levels - 1, item.want(), items.as_slice()) }
             Json::Null | Json::Bool(_) | Json::Number(_) | Json::String(_) | Json::Object(_) =>
                 true,
         },
         Want::Word(call) => first_suits(question, call, json),
+        Want::Value => match json {
+            Json::Array(items) => each_member(question, levels - 1, items.as_slice()),
+            Json::Null | Json::Bool(_) | Json::Number(_) | Json::String(_) | Json::Object(_) =>
+                true,
+        },
     }
+}
+
+fn is_scalar(json: &Json) -> bool
+    ensures { result ≡ is_scalar (view json.now) }
+{
+    match json {
+        Json::Null | Json::Bool(_) | Json::Number(_) | Json::String(_) => true,
+        Json::Array(_) | Json::Object(_) => false,
+    }
+}
+
+/// The same of a member of an array of a value: what is neither an array nor an object has no text
+/// that is asked of.
+#[cycle(ask)]
+#[tactic(auto, using(crate::proofs::Members::scalar_suits))]
+fn member_suits(question: &Question<'_>, levels: u32, json: &Json) -> bool
+    ensures { result
+        ≡ all_suit (asked_by question.now) levels (member_want (view json.now)) (view json.now) }
+{
+    if is_scalar(json) {
+        return true;
+    }
+    all_suit(question, levels, member_want(json), json)
+}
+
+#[cycle(ask)]
+fn each_member(question: &Question<'_>, levels: u32, items: &[Json]) -> bool
+    ensures { result
+        ≡ each_member (all_suit (asked_by question.now) levels) (items_view items.now) }
+{
+    for item in items {
+        if !member_suits(question, levels, item) {
+            return false;
+        }
+    }
+    true
 }
 
 #[cycle(ask)]

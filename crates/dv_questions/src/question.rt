@@ -1,22 +1,22 @@
-//! What may be asked of the texts of a script.
+//! What may be asked of the texts and the objects of a script.
 
 ghost use Rattle.std.specs.Prelude.{◌≡◌, ◌≤◌, ◌&&◌, ℕ, true};
 ghost use Rattle.dv_forms.specs.Words.{may_stand};
 ghost use Rattle.dv_questions.specs.Questions.{is_found_named, is_named, is_class, is_pool, stands};
-ghost use Rattle.dv_questions.specs.Questions.{is_known, is_among, is_pooled, is_body, asked_by};
-ghost use Rattle.dv_questions.specs.Questions.{has_body, is_declared};
+ghost use Rattle.dv_questions.specs.Questions.{is_known, is_among, is_pooled, is_body};
+ghost use Rattle.dv_questions.specs.Questions.{has_body, is_declared, object_stands, asked_by};
 
 use crate::names::{is_name, names_one};
-use dv_forms::versions::COMMENTS_SINCE;
-use dv_forms::want::{Call, Leaf, Object};
+use dv_forms::versions::{COMMENTS_SINCE, FAILURES_SINCE};
+use dv_forms::want::{Call, Keyed, Leaf, Object};
 use dv_forms::words::may_stand;
 use dv_script::script::{NamedBody, NamedPool};
 use dv_value::classes::Classes;
 
-/// What is asked of the texts of a script.
+/// What is asked of the texts and the objects of a script.
 #[derive(Clone, Copy, Drop)]
 pub enum Question<'q> {
-    /// Whether each word is one of this version, and each comment.
+    /// Whether each word is one of this version, each comment, and each failure in a value.
     Words(u32),
     /// Whether each name has the form of one of this version.
     Names(u32),
@@ -79,6 +79,16 @@ fn stands(version: u32, leaf: Leaf) -> bool
         | Leaf::Bound
         | Leaf::ListFlag
         | Leaf::GatherFlag => true,
+    }
+}
+
+/// Whether such an object may stand in a script of this version.
+pub fn object_stands(version: u32, keyed: Keyed) -> bool
+    ensures { result ≡ object_stands version keyed }
+{
+    match keyed {
+        Keyed::Failure => FAILURES_SINCE <= version,
+        Keyed::Script(_) | Keyed::Cooperator | Keyed::Body => true,
     }
 }
 
@@ -272,6 +282,19 @@ impl Question<'_> {
         match self {
             Question::Words(version) | Question::Every(version, _, _, _) => {
                 since <= *version || may_stand(call, word, *version)
+            }
+            Question::Names(_) | Question::Classes(_) | Question::Pools(_) | Question::Bodies(_) =>
+                true,
+        }
+    }
+
+    /// Whether such an object answers well.
+    pub fn of_object(&self, keyed: Keyed) -> bool
+        ensures { result ≡ (asked_by self.now).of_object keyed }
+    {
+        match self {
+            Question::Words(version) | Question::Every(version, _, _, _) => {
+                object_stands(*version, keyed)
             }
             Question::Names(_) | Question::Classes(_) | Question::Pools(_) | Question::Bodies(_) =>
                 true,

@@ -26,7 +26,7 @@ use Rattle.dv_forms.specs.declared.want.Item.{Item}
 use Rattle.dv_why.specs.declared.question.Question.{Question}
 use Rattle.dv_why.specs.declared.question.Question.TheVariants as question
 use Rattle.dv_forms.specs.declared.versions.TheConstants.{BODIES_SINCE}
-use Rattle.dv_forms.specs.Wants.{key_want, keys_in, script_want, cooperator_want, body_want}
+use Rattle.dv_forms.specs.Wants.{key_want, keys_in, script_want, cooperator_want, body_want, failure_want}
 use Rattle.dv_why.specs.Fits.{first_other, is_other, suits}
 use Rattle.dv_why.specs.AllSuit.{AllSuit, all_suit, ItemsSuit, KnownSuit, OthersOf, OthersSuit, ValuesSuit}
 
@@ -154,6 +154,15 @@ body_key P key all other =
     either key (codes "comment") (λ t e. subst P e all.1.1.0) (λ f2.
     other (rw (f0, f1, f2) refl))))
 
+failure_key : (P : List ℕ → Type 0) (key : List ℕ) → EachKey P (keys_in keyed.Failure)
+    → (failure_want key ≡ want.Other keyed.Failure → P key) → P key
+failure_key P key all other =
+    either key (codes "fail") (λ t e. subst P e all.0) (λ f0.
+    either key (codes "index") (λ t e. subst P e all.1.0) (λ f1.
+    either key (codes "message") (λ t e. subst P e all.1.1.0) (λ f2.
+    either key (codes "sub") (λ t e. subst P e all.1.1.1.0) (λ f3.
+    other (rw (f0, f1, f2, f3) refl)))))
+
 cooperator_key : (P : List ℕ → Type 0) (key : List ℕ) → EachKey P (keys_in keyed.Cooperator)
     → (cooperator_want key ≡ want.Other keyed.Cooperator → P key) → P key
 cooperator_key P key all other =
@@ -219,6 +228,7 @@ known_key P (keyed.Script version) key all other =
     script_key P version (nat_eq version 1) (nat_eq version 2) refl refl key all other
 known_key P keyed.Cooperator key all other = cooperator_key P key all other
 known_key P keyed.Body key all other = body_key P key all other
+known_key P keyed.Failure key all other = failure_key P key all other
 
 -- the values of all keys, by those that the object may have and the others
 pub values_suit : (q : Question) (k : Keyed) (d : Data) → OthersSuit q k d → KnownSuit q k d

@@ -10,13 +10,11 @@ use Rattle.serde_json.specs.Find.{at, get, get_item, as_array, as_bool, as_i64, 
 use Rattle.dv_script.specs.declared.action.ListFlag.{ListFlag}
 use Rattle.dv_script.specs.declared.action.GatherFlag.{GatherFlag}
 use Rattle.dv_script.specs.declared.limits.TheConstants.{MOST_PLACES}
-use Rattle.dv_forms.specs.Forms.{Each, IsList, IsInteger, IsNumber, IsValue, AreValues, a_null, a_bool, an_int, a_text}
-use Rattle.dv_forms.specs.Forms.{a_list, no_values, more_values}
+use Rattle.dv_forms.specs.Forms.{Each, IsList, IsInteger, IsNumber}
 use Rattle.dv_forms.specs.Parts.{call_at, within, integer_at, number_at, bound_at, list_flag, list_flag_at}
 use Rattle.dv_forms.specs.Parts.{gather_flag_named, gather_flag_at}
 use Rattle.dv_grammar.specs.Grammar.{IsListFlag, fires_on_callback, fires_on_errback, consumes_errors, IsGatherFlag}
 use Rattle.dv_grammar.specs.Grammar.{gathers_errors, IsBound, no_bound, a_bound}
-use Rattle.dv_value.specs.declared.value.Value.{Value, Null, Bool as Flag, Int, Text, List as Values}
 use Rattle.dv_forms.specs.declared.want.Want.{Want}
 use Rattle.dv_forms.specs.declared.want.Want.TheVariants as want
 use Rattle.dv_forms.specs.declared.want.Call.{Call}
@@ -82,7 +80,7 @@ text_of (string x) h = (x, refl)
 text_of _ h = cc
 
 -- what is there
-there : {X : Type 0} (o : Option X) → is_some o ≡ true → (x : X) × (o ≡ Some x)
+pub there : {X : Type 0} (o : Option X) → is_some o ≡ true → (x : X) × (o ≡ Some x)
 there None h = cc
 there (Some x) h = (x, refl)
 
@@ -141,26 +139,6 @@ gather_flag_of (string text) h =
     (λ is. rw (← is) (_, gathers_errors)) (λ f.
     (let none : is_some (gather_flag_named text) ≡ false = rw f refl in cc))
 gather_flag_of _ h = cc
-
--- ---- values
-
-mutual
-  pub value_of : (v n : ℕ) (d : Data) → IsFine v n want.Value d → (x : Value) × IsValue d x
-  value_of v n null h = (Null, a_null)
-  value_of v n (boolean b) h = (Flag b, a_bool b)
-  value_of v n (number x) h = let i = there (as_i64 x) (fits_fine h) in (Int i.0, an_int x i.0 i.1)
-  value_of v n (string text) h = (Text text, a_text text)
-  value_of v n (array ds) h =
-      let xs = values_of v n ds (λ k e is. same k h refl is) in (Values xs.0, a_list ds xs.0 xs.1)
-  value_of v n (object ms) h = let no : fits v want.Value (object ms) ≡ true = fits_fine h in cc
-
-  values_of : (v n : ℕ) (ds : Items) → ((k : ℕ) (e : Data) → get_item k ds ≡ Some e → IsFine v n want.Value e)
-      → (xs : List Value) × AreValues ds xs
-  values_of v n no_items h = ([], no_values)
-  values_of v n (item d ds) h =
-      let x = value_of v n d (h 0 d refl) in
-      let xs = values_of v n ds (λ k e is. h (suc k) e is) in
-      (x.0 ∷ xs.0, more_values d ds x.0 xs.0 x.1 xs.1)
 
 -- ---- arrays
 

@@ -3,14 +3,14 @@
 use Rattle.std.proofs.Common.{◌≡◌, ◌≢◌, ℕ, zero, suc, ◌≤◌, Bool, true, false, not, ◌||◌, nat_eq, nat_le, nat_lt, List}
 use Rattle.std.proofs.Common.{[], ◌∷◌}
 use Rattle.std.proofs.Common.{length, Option, Some, None, option_and_then, bytes_eq, refl, sym, ap, subst, ◌∙◌, arith}
-use Rattle.std.proofs.Common.{codes}
+use Rattle.std.proofs.Common.{codes, is_some, ◌&&◌}
 use Rattle.std.proofs.Common.{inl, inr}
 use Rattle.std.specs.List.{list_any}
 use Rattle.std.proofs.lemmas.Bool.{and_parts, leb-true}
 use Rattle.std.proofs.Math.Bool.{or-true}
 use Rattle.std.proofs.lemmas.Slice.Eq.{bytes_eq-Decides}
 use Rattle.serde_json.specs.Data.{Data, string, Items, no_items, item, depth}
-use Rattle.serde_json.specs.Find.{as_array, get, get_member}
+use Rattle.serde_json.specs.Find.{as_array, as_object, get, get_member}
 use Rattle.dv_value.specs.declared.classes.Class.{Class}
 use Rattle.dv_script.specs.declared.script.NamedBody.{NamedBody}
 use Rattle.dv_script.specs.declared.script.NamedPool.{NamedPool}
@@ -20,7 +20,7 @@ use Rattle.dv_grammar.specs.declared.draft.Draft.{Draft}
 use Rattle.dv_grammar.specs.Grammar.{IsNamedBody, names_body, IsPool, pools, IsScript}
 use Rattle.dv_grammar.proofs.Steps.{some_injective}
 use Rattle.dv_questions.specs.Questions.{Asked, words, names, classes, pools as pools_asked, is_known, is_pool}
-use Rattle.dv_questions.specs.Questions.{is_among, stands, bodies as bodies_asked, is_body, has_body}
+use Rattle.dv_questions.specs.Questions.{is_among, object_stands, stands, bodies as bodies_asked, is_body, has_body}
 use Rattle.dv_forms.specs.declared.versions.TheConstants.{BODIES_SINCE, COMMENTS_SINCE}
 use Rattle.dv_forms.specs.declared.want.Leaf.{Leaf}
 use Rattle.dv_forms.specs.declared.want.Leaf.TheVariants as leaf
@@ -28,7 +28,7 @@ use Rattle.dv_reader.specs.Limits.{is_small}
 use Rattle.dv_reader.specs.Refusal.{answers, are_named, are_known, are_distinct, are_pooled, have_own_names}
 use Rattle.dv_reader.specs.Refusal.{have_bodies}
 use Rattle.dv_reader.specs.declared.error.ScriptFault.TheVariants.{BadShape, BadName, BadClass, BadPool, BadBody}
-use Rattle.dv_why.specs.Fits.{is_declared, leaf_fits}
+use Rattle.dv_why.specs.Fits.{fits, has_keys, is_declared, leaf_fits}
 use Rattle.dv_why.specs.declared.question.Question.{Question}
 use Rattle.dv_why.specs.declared.question.Question.TheVariants as question
 use Rattle.dv_why.specs.AllSuit.{AllSuit}
@@ -43,6 +43,7 @@ use Rattle.dv_why.specs.Reasons.{IsRefusedFor}
 use Rattle.dv_why.specs.Wrong.{IsMisshaped, IsMisnamed, IsBadClass, IsBadPool, IsBadBody}
 use Rattle.dv_why.specs.declared.misfit.Misfit.{Misfit}
 use Rattle.dv_forms.specs.declared.want.Want.TheVariants as want
+use Rattle.dv_forms.specs.declared.want.Keyed.{Keyed}
 use Rattle.dv_forms.specs.declared.want.Keyed.TheVariants as keyed
 use Rattle.dv_why.proofs.Parts.{both}
 use Rattle.dv_why.proofs.Texts.{Tells, texts_suit}
@@ -63,7 +64,7 @@ answered {a = a} d draft t g h =
 -- ---- names
 
 names_asked : (v w : ℕ) → v ≡ w → Tells (question.Names v) (names w)
-names_asked v w same = record { leaf = λ l x h. rw (← same) h; word = λ c x h. refl }
+names_asked v w same = record { leaf = λ l x h. rw (← same) h; word = λ c x h. refl; object = λ k e h. refl }
 
 -- ---- classes
 
@@ -72,7 +73,11 @@ classes_asked : (q : Question) (d : Data) (table : List Class) → IsOfClasses d
 classes_asked (question.Shape version) d table of same = absurd of
 classes_asked (question.Names version) d table of same = absurd of
 classes_asked (question.Classes given) d table of same =
-    record { leaf = λ l x h. ap (λ t. is_known t l x) (sym (of ∙ same)) ∙ h; word = λ c x h. refl }
+    record {
+      leaf = λ l x h. ap (λ t. is_known t l x) (sym (of ∙ same)) ∙ h;
+      word = λ c x h. refl;
+      object = λ k e h. refl;
+    }
 classes_asked (question.Pools ps) d table of same = absurd of
 classes_asked (question.Bodies bs) d table of same = absurd of
 
@@ -189,6 +194,7 @@ pools_tell (question.Pools ps) d draft of g = record {
       λ l x h. or_also (not (is_pool l)) (is_declared ps.now x) (is_among x draft.script.pools)
       (among_declared d draft ps.now of g x) h;
   word = λ c x h. refl;
+  object = λ k e h. refl;
 }
 
 all_distinct : (d : Data) (draft : Draft) (b : Bool) → nat_eq (version_in d) 1 ≡ b → IsScript d draft → PoolsDistinct d
@@ -255,6 +261,7 @@ bodies_tell (question.Bodies bs) d draft of g = record {
       λ l x h. or_also (not (is_body l)) (is_declared bs.now x) (has_body x draft.script.bodies)
       (body_declared d draft bs.now of g x) h;
   word = λ c x h. refl;
+  object = λ k e h. refl;
 }
 
 all_own_names : (d : Data) (draft : Draft) (b : Bool) → nat_lt (version_in d) BODIES_SINCE ≡ b → IsScript d draft
@@ -328,9 +335,19 @@ leaf_stands v leaf.Bound x h = refl
 leaf_stands v leaf.ListFlag x h = refl
 leaf_stands v leaf.GatherFlag x h = refl
 
+-- an object that fits may stand in its version
+keyed_stands : (v : ℕ) (k : Keyed) (d : Data) → fits v (want.Keyed k) d ≡ true → object_stands v k ≡ true
+keyed_stands v k d h =
+    let p = and_parts (is_some (as_object d) && object_stands v k) (has_keys k d) h in
+    (and_parts (is_some (as_object d)) (object_stands v k) p.0).1
+
 shape_asked : (v w : ℕ) → v ≡ w → Tells (question.Shape v) (words w)
 shape_asked v w same =
-    record { leaf = λ l x h. rw (← same) (leaf_stands v l x h); word = λ c x h. rw (← same) h }
+    record {
+      leaf = λ l x h. rw (← same) (leaf_stands v l x h);
+      word = λ c x h. rw (← same) h;
+      object = λ k d h. rw (← same) (keyed_stands v k d h);
+    }
 
 -- refused for its shape, a part is found that doesn't fit
 pub found_shape : (d : Data) (m : Misfit) → IsRefusedFor BadShape d → depth d ≤ MOST_LEVELS

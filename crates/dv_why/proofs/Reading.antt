@@ -1,11 +1,10 @@
 -- Where each part of a value fits, it reads.
 use Rattle.std.proofs.Common.{Ordering, Less, Equal, Greater, is_eq, nat_cmp, ◌≡◌, ℕ, zero, suc, ◌≤◌, nat_eq, nat_le}
 use Rattle.std.proofs.Common.{nat_lt}
-use Rattle.std.proofs.Common.{Bool, true, false, ◌||◌, List, [], ◌∷◌, Option, Some, None, is_some}
+use Rattle.std.proofs.Common.{Bool, true, false, ◌||◌, List, [], ◌∷◌, Option, Some, None, is_some, option_and_then}
 use Rattle.std.proofs.Common.{bytes_eq, refl}
 use Rattle.std.proofs.Common.{sym, ap, subst, ◌∙◌, arith, codes}
 use Rattle.std.specs.List.{list_any}
-use Rattle.std.specs.Ordering.{match_ordering}
 use Rattle.std.specs.Cmp.Lexicographic.{slice_cmp}
 use Rattle.std.proofs.lemmas.Bool.{and_parts, eqb-true}
 use Rattle.std.proofs.lemmas.Map.Text.{is_eq-slice_cmp}
@@ -77,10 +76,11 @@ use Rattle.dv_why.specs.Fits.{fits, are_two}
 use Rattle.dv_why.specs.AllSuit.{AllSuit}
 use Rattle.dv_why.proofs.Asked.{EachKey, known_key}
 use Rattle.dv_why.proofs.Fine.{IsFine, fits_fine, inside, same, under, value_fine, text_of, integer_of, number_of}
-use Rattle.dv_why.proofs.Fine.{boolean_of, bound_of, list_flag_of, gather_flag_of, value_of, open_array, list_of}
+use Rattle.dv_why.proofs.Fine.{boolean_of, bound_of, list_flag_of, gather_flag_of, open_array, list_of}
 use Rattle.dv_why.proofs.Fine.{AreFine, are_fine, no_args, one_arg, more_args, open_call}
 use Rattle.dv_why.proofs.Forms.{EachForm, either_found, found_form}
 use Rattle.dv_why.proofs.Parts.{both, here, value}
+use Rattle.dv_why.proofs.Values.{first_there, not_other, still_there, value_of}
 use Rattle.dv_why.proofs.Versions.{least_version, since_third, version_of}
 
 -- ---- texts and classes
@@ -215,7 +215,7 @@ leavings : (v n : ℕ) (table : List Class) → EachForm (IsLeavingRead v n tabl
 leavings v n table =
     (λ ds h.
     let a = one_arg v n want.Value ds h in
-    let x = value_of v n a.a a.fine in
+    let x = value_of v n table a.a a.fine in
     rw (a.items) (Return x.0, returns a.a x.0 x.1, refl)) &
     (λ ds h. rw (no_args v n ds h) (Pass, passes, refl)) &
     (λ ds h.
@@ -238,7 +238,7 @@ other_ends v n table =
     (λ ds h.
     let a = two_args v n (want.Array item_of.Class) want.Value ds h in
     let c = list_of v n item_of.Class (IsClass table) (class_fine v n table) a.a a.one in
-    let x = value_of v n a.b a.two in
+    let x = value_of v n table a.b a.two in
     rw (a.items) (Trap c.0 x.0, traps a.a c.0 a.b x.0 c.1 x.1)) &
     (λ ds h.
     let a = one_arg v n a_deferred ds h in
@@ -280,7 +280,7 @@ works : (v n : ℕ) (table : List Class) → EachForm (IsWorkRead v n table) (ow
 works v n table =
     (λ ds h.
     let a = one_arg v n want.Value ds h in
-    let x = value_of v n a.a a.fine in
+    let x = value_of v n table a.a a.fine in
     rw (a.items) (job_of.Value x.0, gives a.a x.0 x.1)) &
     (λ ds h.
     let a = two_args v n a_class a_text ds h in
@@ -304,18 +304,6 @@ work_fine v n table d h =
 
 -- ---- keys
 
-first_there : (o : Ordering) (rest : Option Data) (d : Data) → is_eq o ≡ true
-    → match_ordering o rest (Some d) rest ≡ Some d
-first_there Less rest d e = cc
-first_there Equal rest d e = refl
-first_there Greater rest d e = cc
-
-still_there : (o : Ordering) (rest : Option Data) (d e : Data) → rest ≡ Some e
-    → (f : Data) × (match_ordering o rest (Some d) rest ≡ Some f)
-still_there Less rest d e is = (e, is)
-still_there Equal rest d e is = (d, refl)
-still_there Greater rest d e is = (e, is)
-
 -- whether a key is one of these, or that of a comment
 abbrev is_key : List (List ℕ) → List ℕ → Bool
 is_key keys key = list_any (λ k. bytes_eq key k) keys || bytes_eq key (codes "comment")
@@ -331,14 +319,6 @@ only_of keys (member k d ms) h =
     first_there (slice_cmp nat_cmp k k) (get_member k ms) d (is_eq-slice_cmp k k ∙ (bytes_eq-Decides k k).1 refl) in
     both (h k d first) (only_of keys ms (λ key e is. let f =
     still_there (slice_cmp nat_cmp key k) (get_member key ms) d e is in h key f.0 f.1))
-
--- a key that is there isn't another
-not_other : (v : ℕ) (k : Keyed) (ms : Members) → AllSuit (question.Shape v) (want.Keyed k) (object ms)
-    → (key : List ℕ) (e : Data) → get_member key ms ≡ Some e → key_want k key ≡ want.Other k → ⊥
-not_other v k ms h key e is other =
-    let fit : fits v (key_want k key) e ≡ true = here (value key h refl is) in
-    let no : fits v (want.Other k) e ≡ true = ap (λ (w : Want). fits v w e) (sym other) ∙ fit in
-    cc
 
 comment_fits : (v : ℕ) (o : Option Data) → ((e : Data) → o ≡ Some e → fits v a_comment e ≡ true) → is_comment o ≡ true
 comment_fits v None h = refl
@@ -476,7 +456,7 @@ actions : (v n : ℕ) (table : List Class) → AreRead v n table
 actions v n table read =
     one_text v n table _ (λ d h. h) (λ x. Deferred x None) deferred &
     text_and v n table _ (λ d h. h) (IsBody table) read.of_body (λ x b. Deferred x (Some b)) deferred_with &
-    text_and v n table _ (λ d h. h) IsValue (value_of v n) (λ x b. Callback x b) callback &
+    text_and v n table _ (λ d h. h) (IsValue table) (value_of v n table) (λ x b. Callback x b) callback &
     (λ ds h.
     let a = three_args v n _ _ _ ds h in
     let p = text_of a.a (fits_fine a.one) in
@@ -515,7 +495,7 @@ actions v n table read =
     rw (a.items, p.1, q.1) (RunWith p.0 q.0 r.0, run_with p.0 q.0 a.c r.0 r.1)) &
     text_and_two v n table _ (λ d h. h) IsBound (λ d h. bound_of d (fits_fine h)) IsBound
     (λ d h. bound_of d (fits_fine h)) (λ x b c. Queue x b c) queue &
-    text_and v n table _ (λ d h. h) IsValue (value_of v n) (λ x b. Put x b) put &
+    text_and v n table _ (λ d h. h) (IsValue table) (value_of v n table) (λ x b. Put x b) put &
     two_texts v n table _ _ (λ d h. h) (λ d h. h) (λ x y. Get x y) get &
     text_and_two v n table _ (λ d h. h) (IsNumber 0 MOST_DELAY) (number_fine v n 0 MOST_DELAY)
     (IsBody table) read.of_body (λ x b c. Later x b c) later &

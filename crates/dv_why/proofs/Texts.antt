@@ -1,5 +1,6 @@
 -- Where each part of a value answers a question well, each of its texts does.
 use Rattle.std.proofs.Common.{◌≡◌, ℕ, zero, suc, Bool, true, List, [], ◌∷◌, Option, Some, None, option_and_then, refl}
+use Rattle.std.proofs.Common.{ap, option_map}
 use Rattle.serde_json.specs.Data.{Data, null, boolean, number, string, array, object, Items, no_items, item}
 use Rattle.serde_json.specs.Find.{as_str, as_array, get, get_item}
 use Rattle.dv_forms.specs.declared.want.Want.{Want}
@@ -8,10 +9,11 @@ use Rattle.dv_forms.specs.declared.want.Leaf.{Leaf}
 use Rattle.dv_forms.specs.declared.want.Call.{Call}
 use Rattle.dv_forms.specs.declared.want.Keyed.{Keyed}
 use Rattle.dv_forms.specs.Parts.{call_at}
-use Rattle.dv_forms.specs.Wants.{item_want, key_want, keys_in, pair_wants}
+use Rattle.dv_forms.specs.Wants.{item_want, key_want, keys_in, member_want, pair_wants}
 use Rattle.dv_forms.specs.Words.{wants_of}
 use Rattle.dv_questions.specs.Questions.{Asked}
-use Rattle.dv_questions.specs.Asking.{count, if_there, each_item, one_for_one, arguments_suit, word_suits, call_suits}
+use Rattle.dv_questions.specs.Asking.{count, if_there, each_item, each_member, one_for_one, arguments_suit, word_suits}
+use Rattle.dv_questions.specs.Asking.{call_suits}
 use Rattle.dv_questions.specs.Asking.{keys_suit, in_parts, all_suit}
 use Rattle.dv_why.specs.declared.question.Question.{Question}
 use Rattle.dv_why.specs.Places.{nth}
@@ -19,10 +21,11 @@ use Rattle.dv_why.specs.Fits.{suits}
 use Rattle.dv_why.specs.AllSuit.{AllSuit}
 use Rattle.dv_why.proofs.Parts.{both, here, part, value}
 
--- a text that answers one question well answers the other well
+-- a text or an object that answers one question well answers the other well
 pub record Tells (q : Question) (a : Asked) : Type 0 where
   pub leaf : (l : Leaf) (x : List ℕ) → suits q (want.Leaf l) (string x) ≡ true → a.of_leaf l x ≡ true
   pub word : (c : Call) (x : List ℕ) → suits q (want.Word c) (string x) ≡ true → a.of_word c x ≡ true
+  pub object : (k : Keyed) (d : Data) → suits q (want.Keyed k) d ≡ true → a.of_object k ≡ true
 
 -- what each part answers well is good
 abbrev Goods : Question → (Want → Data → Bool) → Type 0
@@ -60,6 +63,11 @@ each_good : (f : Data → Bool) (ds : Items) → ((n : ℕ) (e : Data) → get_i
     → each_item f ds ≡ true
 each_good f no_items k = refl
 each_good f (item d ds) k = both (k 0 d refl) (each_good f ds (λ n e is. k (suc n) e is))
+
+members_good : (f : Want → Data → Bool) (ds : Items)
+    → ((n : ℕ) (e : Data) → get_item n ds ≡ Some e → f (member_want e) e ≡ true) → each_member f ds ≡ true
+members_good f no_items k = refl
+members_good f (item d ds) k = both (k 0 d refl) (members_good f ds (λ n e is. k (suc n) e is))
 
 ones_good : (f : Want → Data → Bool) (ws : List Want) (ds : Items)
     → ((n : ℕ) (v : Want) (e : Data) → nth ws n ≡ Some v → get_item n ds ≡ Some e → f v e ≡ true)
@@ -110,13 +118,15 @@ array_is is h = rw is at h
 all_good : {q : Question} {a : Asked} → Tells q a → (f : Want → Data → Bool) → Goods q f → (w : Want) (d : Data)
     → AllSuit q w d → in_parts a f w d ≡ true
 all_good t f k (want.Leaf l) d h = leaf_good t l d h
-all_good t f k want.Value d h = refl
+all_good t f k want.Value d h =
+    array_good (each_member f) d (λ ds is. members_good f ds
+    (λ n e here. k (member_want e) e (part n (array_is is h) (ap (option_map member_want) here) here)))
 all_good {a = a} t f k (want.Call c) d h =
     array_good (call_suits a f c) d (λ ds is. call_good t f k c ds (array_is is h))
 all_good t f k (want.Pair p) d h =
     array_good (one_for_one f (pair_wants p)) d
     (λ ds is. ones_good f (pair_wants p) ds (λ n v e wants here. k v e (part n (array_is is h) wants here)))
-all_good t f k (want.Keyed o) d h = keys_good f k o d h (keys_in o)
+all_good t f k (want.Keyed o) d h = both (t.object o d (here h)) (keys_good f k o d h (keys_in o))
 all_good t f k (want.Array i) d h =
     array_good (each_item (f (item_want i))) d
     (λ ds is. each_good (f (item_want i)) ds (λ n e here. k (item_want i) e (part n (array_is is h) refl here)))

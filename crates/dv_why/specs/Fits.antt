@@ -8,9 +8,10 @@ use Rattle.serde_json.specs.Data.{no_members, member}
 use Rattle.serde_json.specs.Find.{as_str, as_bool, as_array, as_object, as_i64, get, at}
 use Rattle.serde_json.specs.View.{view}
 use Rattle.serde_json.specs.declared.value.Value.{Value}
-use Rattle.dv_forms.specs.Parts.{text_at, integer_at, number_at, bound_at, list_flag_at, gather_flag_at}
+use Rattle.dv_forms.specs.Forms.{is_first_error}
+use Rattle.dv_forms.specs.Parts.{empty_at, text_at, integer_at, number_at, bound_at, list_flag_at, gather_flag_at}
 use Rattle.dv_questions.specs.Asking.{count}
-use Rattle.dv_questions.specs.Questions.{is_body, is_known, is_named, is_pool}
+use Rattle.dv_questions.specs.Questions.{is_body, is_known, is_named, is_pool, object_stands}
 use Rattle.dv_forms.specs.declared.want.Leaf.{Leaf}
 use Rattle.dv_forms.specs.declared.want.Leaf.TheVariants as leaf
 use Rattle.dv_forms.specs.declared.want.Call.{Call}
@@ -71,11 +72,24 @@ abbrev pub word_fits : ℕ → Call → Option (List ℕ) → Bool
 word_fits version c None = false
 word_fits version c (Some word) = may_stand c word version
 
+-- whether there is an empty text
+abbrev pub is_empty : Option Data → Bool
+is_empty o = is_some (option_and_then empty_at o)
+
+-- a failure of FirstError has a place, an empty message and a failure in it, and any other has neither place nor
+-- failure
+abbrev pub is_of_class : Bool → Data → Bool
+is_of_class true d =
+    is_some (get (codes "index") d) && is_some (get (codes "sub") d) && is_empty (get (codes "message") d)
+is_of_class false d = not (is_some (get (codes "index") d)) && not (is_some (get (codes "sub") d))
+
 -- whether the object has the keys that it has to have
 abbrev pub has_keys : Keyed → Data → Bool
 has_keys (keyed.Script version) d = is_some (get (codes "version") d) && is_some (get (codes "events") d)
 has_keys keyed.Cooperator d = is_some (get (codes "units") d) && is_some (get (codes "delay") d)
 has_keys keyed.Body d = true
+has_keys keyed.Failure d =
+    is_some (get (codes "fail") d) && is_some (get (codes "message") d) && is_of_class (is_first_error d) d
 
 -- what stands at a place has the shape that the place asks for, its parts apart
 abbrev pub fits : ℕ → Want → Data → Bool
@@ -83,7 +97,7 @@ fits version (want.Leaf leaf) d = leaf_fits version leaf d
 fits version want.Value d = value_fits d
 fits version (want.Call c) d = array_fits (parts_fit c) (as_array d)
 fits version (want.Pair p) d = array_fits are_two (as_array d)
-fits version (want.Keyed k) d = is_some (as_object d) && has_keys k d
+fits version (want.Keyed k) d = is_some (as_object d) && object_stands version k && has_keys k d
 fits version (want.Array i) d = is_some (as_array d)
 fits version (want.Word c) d = word_fits version c (as_str d)
 fits version (want.Other k) d = false

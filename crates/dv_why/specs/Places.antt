@@ -1,5 +1,6 @@
 -- Places in a JSON value, as JSON Pointers name them (RFC 6901), and what the place asks for.
 use Rattle.std.specs.Prelude.{ℕ, zero, suc, List, [], ◌∷◌, map, Option, Some, None, option_and_then}
+use Rattle.std.specs.Prelude.{option_map}
 use Rattle.serde_json.specs.Data.{Data}
 use Rattle.serde_json.specs.Find.{at, get}
 use Rattle.dv_forms.specs.Parts.{call_at}
@@ -8,7 +9,7 @@ use Rattle.dv_why.specs.declared.misfit.Step.TheVariants as step
 use Rattle.dv_forms.specs.declared.want.Want.{Want}
 use Rattle.dv_forms.specs.declared.want.Want.TheVariants as want
 use Rattle.dv_forms.specs.declared.want.Call.{Call}
-use Rattle.dv_forms.specs.Wants.{item_want, key_want, pair_wants}
+use Rattle.dv_forms.specs.Wants.{item_want, key_want, member_want, pair_wants}
 use Rattle.dv_forms.specs.Words.{wants_of}
 use Rattle.dv_questions.specs.Asking.{count}
 
@@ -59,7 +60,7 @@ call_want c d (suc n) = argument_want c d n
 -- what the place of an item of an array asks for, by what the array's place does
 abbrev pub part_want : Want → Data → ℕ → Option Want
 part_want (want.Leaf leaf) d n = None
-part_want want.Value d n = Some want.Value
+part_want want.Value d n = option_map member_want (at n d)
 part_want (want.Call c) d n = call_want c d n
 part_want (want.Pair p) d n = nth (pair_wants p) n
 part_want (want.Keyed k) d n = None

@@ -1,6 +1,6 @@
 use dv_forms::leaf::call as call_in;
 use dv_forms::limits::most_nodes;
-use dv_forms::versions::{BODIES_SINCE, COMMENTS_SINCE, MARKS_SINCE};
+use dv_forms::versions::{BODIES_SINCE, COMMENTS_SINCE, FAILURES_SINCE, MARKS_SINCE};
 use dv_forms::want::{Call, Item, Keyed, Leaf, Object, Pair, Want};
 use dv_forms::words::{
     ACTION_FORMS, END_FORMS, EVENT_FORMS, Form, LEAVING_FORMS, STATEMENT_FORMS, WORK_FORMS,
@@ -183,11 +183,20 @@ fn pair_text(pair: Pair) -> &'static str {
     }
 }
 
-fn keyed_text(keyed: Keyed) -> &'static str {
+fn failure_text(version: u32) -> &'static str {
+    if version < FAILURES_SINCE {
+        "a value, which is no object: a failure stands in an array from version 3 on"
+    } else {
+        "a failure: {\"fail\":CLASS,\"message\":TEXT}, or {\"fail\":\"FirstError\",\"index\":I,\"message\":\"\",\"sub\":FAILURE}"
+    }
+}
+
+fn keyed_text(version: u32, keyed: Keyed) -> &'static str {
     match keyed {
         Keyed::Script(_) => "a script: an object",
         Keyed::Cooperator => "a cooperator: an object of the keys units and delay",
         Keyed::Body => "a body: an object of the keys do and end, each of which may be left out",
+        Keyed::Failure => failure_text(version),
     }
 }
 
@@ -216,7 +225,7 @@ fn want_text(version: u32, want: Want) -> &'static str {
             "a value: null, true, false, an integer of 64 bits, a text or an array of values",
         Want::Call(call) => call_text(version, call),
         Want::Pair(pair) => pair_text(pair),
-        Want::Keyed(keyed) => keyed_text(keyed),
+        Want::Keyed(keyed) => keyed_text(version, keyed),
         Want::Array(item) => array_text(item),
         Want::Word(call) => word_text(version, call),
         Want::Other(keyed) => keys_text(version, keyed),
@@ -236,6 +245,9 @@ fn keys_text(version: u32, keyed: Keyed) -> &'static str {
         } else {
             "no such key: a body has do, end and comment"
         },
+        Keyed::Failure => {
+            "no such key: a failure has fail and message, and one of FirstError also index and sub"
+        }
     }
 }
 
@@ -355,12 +367,12 @@ fn forms_in(call: Call, json: &Json) -> Option<Shown> {
     }
 }
 
-/// The key that an object has to have and hasn't.
+/// The key that an object has to have and hasn't. What a failure lacks, its form shows.
 fn missing_key(keyed: Keyed, json: &Json) -> Option<&'static str> {
     let keys: &'static [&'static str] = match keyed {
         Keyed::Script(_) => &["version", "events"],
         Keyed::Cooperator => &["units", "delay"],
-        Keyed::Body => &[],
+        Keyed::Body | Keyed::Failure => &[],
     };
     for key in keys {
         if json.get(*key).is_none() {

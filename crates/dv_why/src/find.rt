@@ -9,11 +9,11 @@ ghost use Rattle.dv_why.specs.AllSuit.{AllSuit, ItemsSuit, KnownSuit, OthersOf, 
 ghost use Rattle.dv_why.specs.Finds.{Finds};
 ghost use Rattle.dv_why.specs.Fits.{first_other, is_other, suits};
 ghost use Rattle.dv_why.specs.Places.{argument_want, call_want, nth, part_want};
-ghost use Rattle.dv_forms.specs.Wants.{key_want};
+ghost use Rattle.dv_forms.specs.Wants.{key_want, member_want};
 
 use crate::misfit::{Misfit, Step};
 use crate::question::{Question, suits};
-use dv_forms::want::{Call, Keyed, Want};
+use dv_forms::want::{Call, Keyed, Want, member_want};
 use dv_forms::words::wants_of;
 use serde_json::{Map, Value as Json};
 use std::alloc::{AllocError, Global};
@@ -68,16 +68,38 @@ fn part_of_call(call: Call, json: &Json, number: usize) -> Option<Want>
     }
 }
 
+/// What the place of this member of an array of a value asks for.
+fn part_of_value(json: &Json, number: usize) -> Option<Want>
+    ensures { result ≡ option_map member_want (at number (view json.now)) }
+{
+    let member = json.get(number)?;
+    Some(member_want(member))
+}
+
 /// What the place of this item of an array asks for, by what the array's place does.
 fn part_of(want: Want, json: &Json, number: usize) -> Option<Want>
     ensures { result ≡ part_want want (view json.now) number }
 {
     match want {
-        Want::Value => Some(Want::Value),
+        Want::Value => part_of_value(json, number),
         Want::Call(call) => part_of_call(call, json, number),
         Want::Pair(pair) => nth(pair.wants(), number),
         Want::Array(item) => Some(item.want()),
         Want::Leaf(_) | Want::Keyed(_) | Want::Word(_) | Want::Other(_) => None,
+    }
+}
+
+/// Whether an object is looked at before its keys: one that is no failure has any keys.
+fn goes_first(want: Want) -> bool {
+    match want {
+        Want::Keyed(keyed) => matches!(keyed, Keyed::Failure),
+        Want::Leaf(_)
+        | Want::Value
+        | Want::Call(_)
+        | Want::Pair(_)
+        | Want::Array(_)
+        | Want::Word(_)
+        | Want::Other(_) => false,
     }
 }
 
@@ -95,6 +117,9 @@ pub fn find<'j>(
     ensures none { IfOk result (λ found. found ≡ None → depth (view json.now) ≤ levels
         → AllSuit question.entry want (view json.now)) }
 {
+    if goes_first(want) && !suits(question, want, json) {
+        return Ok(Some(Misfit::here(alloc, want, json)));
+    }
     if let Some(misfit) = other_key(alloc, question, want, levels, json)? {
         return Ok(Some(misfit));
     }

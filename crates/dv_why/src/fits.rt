@@ -1,15 +1,17 @@
 //! Whether what stands at a place has the shape that the place asks for, its parts apart.
 
-ghost use Rattle.std.specs.Prelude.{◌≡◌};
+ghost use Rattle.std.specs.Prelude.{◌≡◌, option_map};
 ghost use Rattle.serde_json.specs.View.{view, items_view};
 ghost use Rattle.serde_json.specs.Find.{as_str, as_array};
 ghost use Rattle.dv_why.specs.Fits.{value_fits, begins_well, parts_fit, array_fits, are_two};
-ghost use Rattle.dv_why.specs.Fits.{word_fits, has_keys, fits};
+ghost use Rattle.dv_why.specs.Fits.{word_fits, is_empty, is_of_class, has_keys, fits};
 
 use crate::leaf::leaf_fits;
+use dv_forms::failure::is_first_error;
 use dv_forms::versions::LAST_VERSION;
 use dv_forms::want::{Call, Keyed, Want};
 use dv_forms::words::{may_stand, wants_of};
+use dv_questions::question::object_stands;
 use serde_json::Value as Json;
 
 fn value_fits(json: &Json) -> bool
@@ -77,6 +79,30 @@ fn word_fits(version: u32, call: Call, json: &Json) -> bool
     }
 }
 
+fn is_empty(json: Option<&Json>) -> bool
+    ensures { result ≡ is_empty (option_map (λ d. view d.now) json.entry) }
+{
+    match json {
+        Some(json) => match json.as_str() {
+            Some("") => true,
+            Some(_) | None => false,
+        },
+        None => false,
+    }
+}
+
+/// Whether a failure of FirstError has a place, an empty message and a failure in it, or any other
+/// neither place nor failure.
+fn is_of_class(first: bool, json: &Json) -> bool
+    ensures { result ≡ is_of_class first (view json.now) }
+{
+    if first {
+        json.get("index").is_some() && json.get("sub").is_some() && is_empty(json.get("message"))
+    } else {
+        json.get("index").is_none() && json.get("sub").is_none()
+    }
+}
+
 fn has_keys(keyed: Keyed, json: &Json) -> bool
     ensures { result ≡ has_keys keyed (view json.now) }
 {
@@ -84,6 +110,11 @@ fn has_keys(keyed: Keyed, json: &Json) -> bool
         Keyed::Script(_) => json.get("version").is_some() && json.get("events").is_some(),
         Keyed::Cooperator => json.get("units").is_some() && json.get("delay").is_some(),
         Keyed::Body => true,
+        Keyed::Failure => {
+            json.get("fail").is_some()
+                && json.get("message").is_some()
+                && is_of_class(is_first_error(json), json)
+        }
     }
 }
 
@@ -97,7 +128,9 @@ pub fn fits(version: u32, want: Want, json: &Json) -> bool
         Want::Value => value_fits(json),
         Want::Call(call) => call_fits(call, json),
         Want::Pair(_) => is_pair(json),
-        Want::Keyed(keyed) => json.as_object().is_some() && has_keys(keyed, json),
+        Want::Keyed(keyed) => {
+            json.as_object().is_some() && object_stands(version, keyed) && has_keys(keyed, json)
+        }
         Want::Array(_) => json.as_array().is_some(),
         Want::Word(call) => word_fits(version, call, json),
         Want::Other(_) => false,

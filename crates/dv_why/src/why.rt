@@ -173,6 +173,7 @@ fn of_place(
 }
 
 /// A JSON text that is no script.
+#[tactic(auto, using(crate::proofs::Reasons::refused_for))]
 fn of_json(alloc: Global, fault: ScriptFault, bytes: &[u8]) -> Result<Json, AllocError>
     requires { Refuses fault bytes.now }
     ensures { IfOk result (λ told. TellsOfJson fault bytes.now (view told)) }

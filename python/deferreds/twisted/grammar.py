@@ -64,6 +64,14 @@ UNITS = _numbers(_of_key("cooperator", "units"))
 PLACES = _numbers(_of_word("throw", 0)["of"])
 WORKERS = _numbers(_of_key("script", "pools")["of"]["parts"][1])
 
+#: the first version in which a member of an array of a value may be a failure
+FAILURES_SINCE = min(key.since for key in LANGUAGE.keys_of("failure"))
+#: the keys of a failure, and those of one of FirstError, which has another in it
+FAILURE_KEYS: FrozenSet[str] = frozenset(key.key for key in LANGUAGE.keys_of("failure") if key.needed)
+FIRST_ERROR_KEYS: FrozenSet[str] = frozenset(key.key for key in LANGUAGE.keys_of("failure"))
+#: the places of children that a FirstError can say
+INDEXES = _numbers(_of_key("failure", "index"))
+
 
 class Kind(enum.Enum):
     """A kind of argument. A kind that names an object says whether the object is made or looked up."""

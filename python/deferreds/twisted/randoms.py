@@ -119,7 +119,7 @@ class Scripts:
             root["pools"] = [[name, self._random.randint(0, 2)] for name in self._pools]
 
     def _third(self, root: Dict[str, Any]) -> None:
-        """Has half of the scripts be of version 3, with marks in the names of some, and comments."""
+        """Has half of the scripts be of version 3, with marks in the names of some, comments, and failures in values."""
         self._is_third = self._one_in(2)
         self._marks = _MARKS if self._is_third and self._one_in(2) else ""
         self._named = []
@@ -237,8 +237,15 @@ class Scripts:
 
     def _value(self, depth: int) -> Any:
         if self._one_in(8):
-            return [self._value(depth), 1]
+            return [self._failure() if self._is_third and self._one_in(2) else self._value(depth), 1]
         return self._random.choice((None, True, 0, 1, 7, "x", [], 2**63 - 1))
+
+    def _failure(self) -> Dict[str, Any]:
+        """A failure in a value, at times with another in it."""
+        if self._one_in(4):
+            index = self._random.randint(0, 2)
+            return {"fail": "FirstError", "index": index, "message": "", "sub": self._failure()}
+        return {"fail": self._random.choice(_CLASSES), "message": self._random.choice(_TEXTS)}
 
     def _body(self, depth: int) -> Dict[str, Any]:
         body: Dict[str, Any] = {}

@@ -288,7 +288,7 @@ class Player:
     def _end(self, end: Sequence[Any], given: object, here: Optional[Deferred[Any]]) -> Any:
         word = end[0]
         if word == "return":
-            return end[1]
+            return self._value(end[1])
         if word == "pass":
             return given
         if word == "plus":
@@ -296,7 +296,7 @@ class Player:
         if word == "raise":
             raise self.teller.classes.make(end[1], end[2])
         if word == "trap":
-            return self._trap(given, end[1], end[2])
+            return self._trap(given, end[1], self._value(end[2]))
         if word == "throw":
             return self._throw(given, end[1])
         if word == "run":
@@ -307,6 +307,18 @@ class Player:
         """Runs a body that the script declares."""
         self.teller.tell(f"body {name}")
         return self._body(self.script.bodies[name], given, here)
+
+    def _value(self, value: Any) -> Any:
+        """A value of the script: what is a failure in a list of it is a Failure."""
+        if isinstance(value, list):
+            return [self._value(item) for item in value]
+        return self._failure(value) if isinstance(value, dict) else value
+
+    def _failure(self, shown: Dict[str, Any]) -> Failure:
+        """The Failure that a script shows so."""
+        if "sub" in shown:
+            return _Failure(defer.FirstError(self._failure(shown["sub"]), shown["index"]))
+        return _Failure(self.teller.classes.make(shown["fail"], shown["message"]))
 
     def _plus(self, given: object, number: int) -> int:
         if type(given) is not int:
@@ -387,7 +399,7 @@ class Player:
         Deferred(canceller)
 
     def _callback(self, action: List[Any], deferred: Deferred[Any]) -> None:
-        deferred.callback(action[2])
+        deferred.callback(self._value(action[2]))
 
     def _errback(self, action: List[Any], deferred: Deferred[Any]) -> None:
         deferred.errback(_Failure(self.teller.classes.make(action[2], action[3])))
@@ -467,7 +479,7 @@ class Player:
         queues.thing_of(self.teller, made)
 
     def _put(self, action: List[Any], here: Optional[Deferred[Any]]) -> None:
-        self._thing("queue", action[1]).put(action[2])
+        self._thing("queue", action[1]).put(self._value(action[2]))
 
     def _get(self, action: List[Any], here: Optional[Deferred[Any]]) -> None:
         queue = self._thing("queue", action[2])
@@ -631,7 +643,7 @@ class Player:
     def _work(self, work: List[Any]) -> Any:
         word = work[0]
         if word == "value":
-            return work[1]
+            return self._value(work[1])
         if word == "raise":
             raise self.teller.classes.make(work[1], work[2])
         return work[1] * (work[1] + 1) // 2

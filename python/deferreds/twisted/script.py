@@ -312,11 +312,34 @@ class _Shape:
             self._said(body["end"], grammar.ENDS)
 
     def _value(self, value: Any) -> None:
+        """A value, which is no failure."""
+        if isinstance(value, dict):
+            self._refuse(value)
+        self._member(value)
+
+    def _member(self, value: Any) -> None:
+        """A value, or what may be a member of an array of one."""
         if isinstance(value, list):
             for item in value:
-                self._value(item)
+                self._member(item)
+        elif isinstance(value, dict):
+            self._failure(value)
         elif value is not None and not isinstance(value, (bool, str)):
             self._number(value, grammar.NUMBERS[Kind.INTEGER])
+
+    def _failure(self, value: Any) -> None:
+        """A failure in a value, as the journal shows it."""
+        if self._version < grammar.FAILURES_SINCE or not isinstance(value, dict):
+            self._refuse(value)
+        is_first = value.get("fail") == "FirstError"
+        self._keys(value, grammar.FIRST_ERROR_KEYS if is_first else grammar.FAILURE_KEYS, set())
+        self.found.classes.append(self._text(value["fail"]))
+        message = self._text(value["message"])
+        if is_first:
+            if message:
+                self._refuse(value)
+            self._number(value["index"], grammar.INDEXES)
+            self._failure(value["sub"])
 
     def _flags(self, value: Any, known: frozenset[str]) -> None:
         for flag in self._texts(value):

@@ -53,7 +53,7 @@ pub fn action(alloc: Global, classes: &Classes, levels: u32, json: &Json) -> Res
     };
     match word {
         ActionWord::Deferred => deferred(alloc, classes, levels, arguments),
-        ActionWord::Callback => callback(alloc, arguments),
+        ActionWord::Callback => callback(alloc, classes, arguments),
         ActionWord::Errback => errback(alloc, classes, arguments),
         ActionWord::AddCallback => with_body(
             alloc,
@@ -86,7 +86,7 @@ pub fn action(alloc: Global, classes: &Classes, levels: u32, json: &Json) -> Res
         ActionWord::Release => release(alloc, arguments),
         ActionWord::RunWith => run_with(alloc, classes, levels, arguments),
         ActionWord::Queue => queue(alloc, arguments),
-        ActionWord::Put => put(alloc, arguments),
+        ActionWord::Put => put(alloc, classes, arguments),
         ActionWord::Get => get(alloc, arguments),
         ActionWord::Later => later(alloc, classes, levels, arguments),
         ActionWord::CancelCall => cancel_call(alloc, arguments),
@@ -286,10 +286,11 @@ fn inline(alloc: Global, classes: &Classes, levels: u32, arguments: &[Json]) -> 
 }
 
 #[inline(never)]
-fn callback(alloc: Global, arguments: &[Json]) -> Result<Action, Stop>
-    ensures { Reads result (two_of text_at value_at Action.Callback (items_view arguments.now)) }
+fn callback(alloc: Global, classes: &Classes, arguments: &[Json]) -> Result<Action, Stop>
+    ensures { Reads result (two_of text_at (value_at classes.now) Action.Callback
+        (items_view arguments.now)) }
 {
-    let (name, value) = named_value(alloc, arguments)?;
+    let (name, value) = named_value(alloc, classes, arguments)?;
     Ok(Action::Callback(name, value))
 }
 
@@ -406,10 +407,11 @@ fn queue(alloc: Global, arguments: &[Json]) -> Result<Action, Stop>
 }
 
 #[inline(never)]
-fn put(alloc: Global, arguments: &[Json]) -> Result<Action, Stop>
-    ensures { Reads result (two_of text_at value_at Action.Put (items_view arguments.now)) }
+fn put(alloc: Global, classes: &Classes, arguments: &[Json]) -> Result<Action, Stop>
+    ensures { Reads result (two_of text_at (value_at classes.now) Action.Put
+        (items_view arguments.now)) }
 {
-    let (name, value) = named_value(alloc, arguments)?;
+    let (name, value) = named_value(alloc, classes, arguments)?;
     Ok(Action::Put(name, value))
 }
 

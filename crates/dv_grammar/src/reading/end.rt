@@ -32,7 +32,7 @@ fn end_of(alloc: Global, classes: &Classes, word: EndWord, arguments: &[Json]) -
     ensures { Reads result (end_of classes.now word (items_view arguments.now)) }
 {
     match word {
-        EndWord::Return => Ok(End::Return(one_value(alloc, arguments)?)),
+        EndWord::Return => Ok(End::Return(one_value(alloc, classes, arguments)?)),
         EndWord::Pass => {
             none(arguments)?;
             Ok(End::Pass)

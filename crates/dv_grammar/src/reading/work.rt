@@ -38,7 +38,7 @@ fn work_of(
     ensures { Reads result (work_of classes.now word (items_view arguments.now)) }
 {
     match word {
-        WorkWord::Value => Ok(Work::Value(one_value(alloc, arguments)?)),
+        WorkWord::Value => Ok(Work::Value(one_value(alloc, classes, arguments)?)),
         WorkWord::Raise => {
             let (class, message) = class_and_message(alloc, classes, arguments)?;
             Ok(Work::Raise(class, message))

@@ -29,7 +29,7 @@ from .bodies import Body, Run, Steps, Unsayable
 from .hiding import SECRETS, Hiding
 from .inside import CALLED, FINALIZED, KIND_OF_ACTION, MEDDLED, Inside, entry, is_entered, is_uncalled, worked_on
 from .places import Spots, place, spot
-from .values import Values
+from .values import Values, is_member
 
 #: kinds of runs whose result is dropped
 _DROPPED = frozenset({"call", "canceller", "step"})
@@ -586,7 +586,7 @@ class Recorder(Observer):
     def value(self, outcome: Outcome) -> Any:
         """A VALUE, unless the language has none for it."""
         shown = outcome.value
-        if isinstance(shown, (list, dict)) and _holds_failures(shown):
+        if isinstance(shown, dict) or not _is_value(shown):
             return Unsayable("a Failure is a value", place(), outcome.text)
         return shown
 
@@ -614,7 +614,8 @@ def _is_waited_for(frame: Run, result: object) -> bool:
     return isinstance(result, Deferred) if frame.kind == "step" else is_deferred(result)
 
 
-def _holds_failures(shown: Any) -> bool:
-    return isinstance(shown, dict) or (
-        isinstance(shown, list) and any(_holds_failures(item) for item in shown)
-    )
+def _is_value(shown: Any) -> bool:
+    """Whether a value of a script, or a member of a list in it, may be what is shown so."""
+    if isinstance(shown, dict):
+        return is_member(shown)
+    return not isinstance(shown, list) or all(map(_is_value, shown))

@@ -247,7 +247,8 @@ class Said:
         """The least version that has the words of a script."""
         keys = [key.since for key in LANGUAGE.keys_of("script") if key.key in script]
         words = {action[0] for _, action in actions_of(script, self.acted)}
-        return max([*keys, *(grammar.SINCE.get(word, 1) for word in words)])
+        failures = [grammar.FAILURES_SINCE] if _has_failures(script["events"]) else []
+        return max([*keys, *failures, *(grammar.SINCE.get(word, 1) for word in words)])
 
     def _cannot(self, reason: str, kind: Optional[str] = None, place: str = "") -> CannotSay:
         self._problem(reason, kind, place)
@@ -513,6 +514,20 @@ def _second_part(count: int) -> str:
 
 def _exact(seconds: Union[float, Fraction]) -> Fraction:
     return Fraction(seconds).limit_denominator(_FINEST)
+
+
+def _has_failures(events: List[Any]) -> bool:
+    """Whether a value in these events has a failure in a list."""
+    left: List[Any] = [events]
+    while left:
+        part = left.pop()
+        if isinstance(part, list):
+            left += part
+        elif isinstance(part, dict):
+            if "fail" in part:
+                return True
+            left += part.values()
+    return False
 
 
 def _first(record: Record) -> Record:

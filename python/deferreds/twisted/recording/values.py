@@ -13,6 +13,7 @@ from typing import Any, Callable, Dict, List, TypeVar
 from twisted.python.failure import Failure
 
 from ..classes import Classes, clean, own_message
+from ..grammar import INDEXES
 from ..texts import NULL, Outcome, Shown, Texts, compact
 from .hiding import Hiding
 
@@ -177,8 +178,8 @@ class Values(Texts):
         plain = float.__repr__(value) if float in type(value).__mro__ else complex.__repr__(value)
         return self._hiding.value(plain) if self._hiding.hides_all else f"<{_name_of(type(value))} {plain}>"
 
-    def _failure(self, value: Failure) -> str:
-        return _as_text(self.error(self.error_of(value)))
+    def _failure(self, value: Failure) -> Shown:
+        return _as_member(self.error(self.error_of(value)))
 
     def text(self, text: str) -> str:
         """A text of the program's, in bounded room and without its secrets."""
@@ -233,11 +234,25 @@ def _itself(value: Any) -> Shown:
 
 
 def _leaf_as_made(shown: Shown) -> Shown:
-    return _as_text(shown) if type(shown) is dict else shown
+    return _as_member(shown) if type(shown) is dict else shown
+
+
+def _as_member(failure: Dict[str, Any]) -> Shown:
+    """A failure in a list: as the language has it, or as a text where it has none for it."""
+    return failure if is_member(failure) else _as_text(failure)
+
+
+def is_member(failure: Dict[str, Any]) -> bool:
+    """Whether a value of a script may have a failure in a list that is shown so."""
+    is_first = failure["fail"] == "FirstError"
+    if not is_first or "sub" not in failure:
+        return not is_first and "sub" not in failure
+    index = failure["index"]
+    return not failure["message"] and type(index) is int and index in INDEXES and is_member(failure["sub"])
 
 
 def _as_text(failure: Dict[str, Any]) -> str:
-    """A failure as a value: its class, and its message where it has one."""
+    """A failure as a text: its class, and its message where it has one."""
     message = failure["message"]
     below = f" at {failure['index']} of {_as_text(failure['sub'])}" if "sub" in failure else ""
     return f"<{failure['fail']}{': ' if message else ''}{message}{below}>"

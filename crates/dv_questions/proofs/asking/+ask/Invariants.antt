@@ -1,11 +1,17 @@
 use Rattle.std.proofs.Common.{◌≡◌, ◌+◌, ◌*◌, drop, map}
 use Rattle.serde_json.specs.View.{view, items_view}
-use Rattle.dv_questions.specs.Asking.{all_suit, each_item, keys_suit, one_for_one}
+use Rattle.dv_questions.specs.Asking.{all_suit, each_item, each_member, keys_suit, one_for_one}
 use Rattle.dv_questions.specs.Questions.{asked_by}
 use Rattle.dv_questions.proofs.asking.+ask.Given as goal
 
 abbrev pub decreases-all_suit : goal.decreases-all_suit
 decreases-all_suit l = 8 * l.levels
+
+abbrev pub decreases-each_member : goal.decreases-each_member
+decreases-each_member l = 8 * l.levels + 2
+
+abbrev pub decreases-member_suits : goal.decreases-member_suits
+decreases-member_suits l = 8 * l.levels + 1
 
 abbrev pub decreases-call_suits : goal.decreases-call_suits
 decreases-call_suits l = 8 * l.levels + 3
@@ -24,6 +30,11 @@ decreases-keys_suit l = 8 * l.levels + 2
 
 abbrev pub decreases-key_suits : goal.decreases-key_suits
 decreases-key_suits l = 8 * l.levels + 1
+
+abbrev pub invariant-each_member-loop-item : goal.invariant-each_member-loop-item
+invariant-each_member-loop-item l =
+    each_member (all_suit (asked_by l.question) l.levels) (items_view (drop l.item-index l.items))
+    ≡ each_member (all_suit (asked_by l.question) l.levels) (items_view l.items)
 
 abbrev pub invariant-each_item-loop-item : goal.invariant-each_item-loop-item
 invariant-each_item-loop-item l =
