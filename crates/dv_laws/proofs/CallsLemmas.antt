@@ -1,7 +1,7 @@
 -- What is scheduled is run once at most, not after it was cancelled and not before its time.
 use Rattle.std.proofs.Common.{◌≡◌, ℕ, zero, suc, ◌+◌, ◌≤◌, ◌++◌, min, Bool, true, false, nat_eq, List, [], ◌∷◌, Option}
 use Rattle.std.proofs.Common.{None, Some, refl, sym, ap, subst, ◌∙◌, arith, append_assoc, slice_get, slice_set, cond}
-use Rattle.std.proofs.Common.{length, sum_by, ◌⊎◌, inl, inr, ⊎_elim}
+use Rattle.std.proofs.Common.{length, sum_by, ◌⊎◌, inl, inr}
 use Rattle.std.specs.Option.{option_map_or}
 use Rattle.std.proofs.lemmas.List.Sums.{sum_by_push, sum_by-set, fold-append}
 use Rattle.std.proofs.lemmas.Option.{none-some, slice_get_within, get_or_from_slice_get}

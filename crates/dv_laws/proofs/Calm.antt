@@ -1,16 +1,12 @@
--- Each rule but settling leads on by steps that use no item and put nothing in place: what Calm proves, from the form
--- of a rule.
+-- Each step but those by which a Deferred is settled and time goes on uses no item: what Quiet and Calm keep, it
+-- keeps.
 use Rattle.std.proofs.Common.{ℕ, ◌+◌, ◌≡◌, Bool, true, false, if◌then◌else◌, List, [], ◌∷◌, ◌++◌, Option, None, Some}
 use Rattle.std.proofs.Common.{length, nat_eq, slice_get, refl, arith}
 use Rattle.dv_value.specs.declared.value.Value.{Value}
 use Rattle.dv_journal.specs.declared.entry.Entry.{Entry}
 use Rattle.dv_journal.specs.declared.entry.Entry.TheVariants as entry
 use Rattle.dv_prims.specs.DeferredList.{Gather, came}
-use Rattle.dv_prims.specs.Queue.{Queue, may_put, receiver, put_to}
 use Rattle.dv_prims.specs.Tokens.{Semaphore, is_unheld}
-use Rattle.dv_prims.specs.declared.gather.Flags.{Flags}
-use Rattle.dv_script.specs.declared.action.Action.{Action, out-Action}
-use Rattle.dv_script.specs.declared.action.Action.TheOpen.{Action-F}
 use Rattle.dv_clock.specs.Clock.{Upcoming, next_call, new_due}
 use Rattle.dv_clock.specs.Due.{coming_due}
 use Rattle.dv_clock.specs.Turns.{turn_of}
@@ -22,58 +18,37 @@ use Rattle.dv_clock.specs.declared.delay_from.DelayFrom.TheVariants as delay_fro
 use Rattle.dv_clock.specs.declared.due.Due.{Due}
 use Rattle.dv_clock.specs.declared.due.Due.TheVariants as what
 use Rattle.dv_script.specs.declared.body.Body as body_of
-use Rattle.dv_script.specs.declared.body.End.{End}
-use Rattle.dv_script.specs.declared.body.Statement.{Statement}
-use Rattle.dv_frames.specs.declared.frame.Frame.{Frame}
-use Rattle.dv_frames.specs.declared.frame.Frame.TheVariants as frame
-use Rattle.dv_frames.specs.declared.frame.Inlining.{Inlining}
-use Rattle.dv_frames.specs.declared.frame.Inlining.TheVariants.{Goes, Acted, Awaited}
-use Rattle.dv_frames.specs.declared.frame.Purpose.{Purpose}
-use Rattle.dv_frames.specs.declared.frame.Purpose.TheVariants.{Named, Holding, Turning}
 use Rattle.dv_journal.specs.Told.{change_of, Aside}
-use Rattle.dv_world.specs.Found.{deferreds_at}
 use Rattle.dv_world.specs.World.{World, step, append, fire, cancel, pause, unpause, make, aside, lock_told}
-use Rattle.dv_world.specs.World.{release_found, forget, unless_stopped, put_into_found, get_from_found, withdraw}
+use Rattle.dv_world.specs.World.{release_found, forget}
 use Rattle.dv_world.specs.World.{arrange, came_to_found, came_to, come_due_found, waiting_cancelled, state_cancelled}
 use Rattle.dv_world.specs.World.{call_cancelled, cancel_call, waiting_reset, state_reset, call_reset, reset_call}
 use Rattle.dv_world.specs.World.{start_timer}
 use Rattle.dv_world.specs.World.{turn_scheduled, loop_stopped, end_loop}
-use Rattle.dv_world.specs.World.{task_told, task_ended, end_task, tick_dropped, keep_tick, step_taken, turn_taken}
+use Rattle.dv_world.specs.World.{task_told, task_ended, tick_dropped, keep_tick, step_taken, turn_taken}
 use Rattle.dv_world.specs.World.{come_to_inline, end_await, submit, deliver_later}
 use Rattle.dv_script.specs.declared.work.Work.{Work}
 use Rattle.dv_objects.specs.Cooperator.{Cooperator, with_step, result_of, unended, wants_tick, idle_tick}
-use Rattle.dv_objects.specs.Objects.{Objects, with_queue, with_list, with_ended_call, with_moved_call, cooperating}
+use Rattle.dv_objects.specs.Objects.{Objects, with_list, with_ended_call, with_moved_call, cooperating}
 use Rattle.dv_objects.specs.Objects.{inlining}
-use Rattle.dv_objects.specs.declared.inline_id.Inline.{Inline}
 use Rattle.dv_objects.specs.Inlines.{come_to, end_adding}
-use Rattle.dv_inline.specs.Position.{Position, come, want_at}
-use Rattle.dv_inline.specs.declared.want.Want.{Want}
-use Rattle.dv_inline.specs.declared.want.Want.TheVariants.{Do, Await}
-use Rattle.dv_objects.specs.declared.follow.Follow.{Follow}
-use Rattle.dv_objects.specs.declared.follow.Follow.TheVariants as follow
+use Rattle.dv_inline.specs.Position.{Position}
 use Rattle.dv_clock.proofs.LoopLemmas.{next_is_first}
 use Rattle.std.specs.Prelude.{max, is_some}
 use Rattle.std.proofs.Common.{◌≤◌, zero, suc, sym, ap, subst, ◌∙◌, cond, slice_set}
 use Rattle.dv_laws.proofs.ReadBackLemmas.{get_set}
 use Rattle.dv_objects.specs.Looping.{new_loop, next_due}
 use Rattle.dv_objects.specs.declared.looping_call.LoopingCall.{LoopingCall}
-use Rattle.dv_world.specs.declared.found.Found.{Found}
-use Rattle.dv_world.specs.declared.found.Found.TheVariants.{All, Unbound}
-use Rattle.dv_objects.specs.Pair.{Pair, callback, errback, both, chain, continuing, timing}
-use Rattle.dv_objects.specs.declared.pair.Side.{Side}
-use Rattle.dv_objects.specs.declared.pair.Side.TheVariants as side
-use Rattle.dv_objects.specs.declared.performed.Performed.{Performed}
-use Rattle.dv_objects.specs.declared.performed.Performed.TheVariants.{Done, Gave, Raised, Awaits}
+use Rattle.dv_objects.specs.Pair.{Pair}
 use Rattle.dv_objects.specs.declared.task.Task.{Task}
 use Rattle.dv_objects.specs.declared.task.TaskEnd.{TaskEnd}
-use Rattle.dv_objects.specs.declared.task.TaskEnd.TheVariants.{Finished, Stopped, Failed}
 use Rattle.dv_objects.specs.declared.reached.Reached.{Reached}
 use Rattle.dv_objects.specs.declared.reached.Reached.TheVariants as reached
 use Rattle.dv_laws.specs.Loops.{Unlooped, looping_of}
 use Rattle.dv_laws.specs.Stored.{Unqueued, queueing_of}
 use Rattle.dv_laws.specs.Tasks.{Untasked, tasking_of}
 use Rattle.dv_laws.specs.Tokens.{Unheld, holding_of}
-use Rattle.dv_objects.specs.Objects.{with_lock}
+use Rattle.dv_objects.specs.Objects.{naming, with_lock}
 use Rattle.dv_prims.specs.Tokens.{released}
 use Rattle.dv_laws.proofs.Beside as beside
 use Rattle.dv_laws.proofs.Beside.{Tasks, Locks, Queues, Loops, Beside, Arranged, resting, arranging}
@@ -83,32 +58,17 @@ use Rattle.dv_clock.specs.declared.limits.TheConstants.{MOST_DELAY}
 use Rattle.dv_objects.specs.Objects.{with_new_call, with_timer, with_delivery, with_tick, without_tick}
 use Rattle.dv_objects.specs.Looping.{with_turn}
 use Rattle.dv_prims.specs.Tokens.{asked, forgotten}
-use Rattle.dv_prims.specs.Queue.{withdrawn}
 use Rattle.dv_clock.specs.Clock.{Clock}
 use Rattle.dv_objects.specs.Looping.{turn_dropped, with_stopped, with_ended}
-use Rattle.dv_objects.specs.Objects.{lock_changed, queue_changed}
+use Rattle.dv_objects.specs.Objects.{lock_changed}
 use Rattle.dv_objects.specs.declared.canceller.Canceller.{Canceller}
-use Rattle.dv_world.specs.World.{fire_guarded, call_later, schedule_tick, tell, reached_from}
+use Rattle.dv_world.specs.World.{fire_guarded, call_later, schedule_tick, reached_from}
 use Rattle.dv_journal.specs.Journal.{fits, with_entry}
-use Rattle.dv_definition.specs.Flags as page_flags
-use Rattle.dv_definition.specs.Rule.{found}
-use Rattle.dv_frames.specs.Turn.{Turned, settle_next, done, ◌over◌}
-use Rattle.dv_loop.specs.Acting.{begun}
-use Rattle.dv_loop.specs.Settling.{side_begun}
-use Rattle.dv_loop.specs.Turning.{turned}
-use Rattle.dv_definition.specs.Definition as page
-use Rattle.dv_definition.specs.Scripts as scripts
-use Rattle.dv_definition.specs.Words as words
-use Rattle.dv_definition.specs.Rule.{Rule, Ends, By, If, Finds, Then, Asks, Fires, Unpauses, Over, run}
 use Rattle.dv_definition.specs.Steps as steps
 use Rattle.dv_definition.specs.Steps.{stepped, Question, Reply}
 use Rattle.dv_world.specs.World as world
-use Rattle.dv_world.specs.World.{Records, state_of, with_stop}
-use Rattle.dv_loop.proofs.Kept.{Both, Kind, telling_of}
-use Rattle.std.proofs.Common.{Result, Ok, Err}
-use Rattle.dv_journal.specs.declared.error.Stop.{Stop}
-use Rattle.dv_journal.specs.declared.error.Stop.TheVariants as stop
-use Rattle.dv_store.specs.Record.{new_record}
+use Rattle.dv_world.specs.World.{Records, with_stop}
+use Rattle.dv_loop.proofs.Kept.{Kind}
 use Rattle.dv_objects.specs.Refusals.{cancelled}
 use Rattle.dv_objects.specs.declared.canceller.Canceller.TheVariants as canceller
 use Rattle.dv_laws.specs.Stored.{Queueing, MakesQueue, PutsInto, GetsFrom}
@@ -158,7 +118,8 @@ abbrev pub ReachesNoItem : Reached → Type 0
 ReachesNoItem (reached.ForItem d k) = ⊥
 ReachesNoItem r = Unit {0}
 
--- what is kept by the steps that fire, unpause and settle nothing, and add no pair
+-- what is kept by the steps that fire, unpause and settle nothing, add no pair, and bind no name but that of a Deferred
+-- that is made
 pub record Quiet (R : World → World → Type 0) : Type 0 where
   pub stays : (w : World) → R w w
   pub joins : (u v w : World) → R u v → R v w → R u w
@@ -169,11 +130,11 @@ pub record Quiet (R : World → World → Type 0) : Type 0 where
       → LeavesQueues (queueing_of e)
       → (Regular w.objects.loops → Clocks e w.objects.clock (change w.objects).clock)
       → (Regular w.objects.loops → Regular (change w.objects).loops) → Beside e w.objects (change w.objects)
-      → R w (aside e change w)
+      → (change w.objects).names ≡ w.objects.names → R w (aside e change w)
   pub by_arrange : (change : Objects → Objects) (w : World) → (change w.objects).queues ≡ w.objects.queues
       → Arranges w.objects.clock (change w.objects).clock
       → (Regular w.objects.loops → Regular (change w.objects).loops) → Arranged w.objects (change w.objects)
-      → R w (arrange change w)
+      → (change w.objects).names ≡ w.objects.names → R w (arrange change w)
   pub by_submit : (d : ℕ) (pool : Option (List ℕ)) (work : Work) (w : World) → R w (submit d pool work w)
 
 pub record Quietly (w u : World) : Type 1 where
@@ -202,7 +163,8 @@ abbrev pub handed_to : ℕ → Option Value → World → World
 handed_to d None w = w
 handed_to d (Some value) w = (fire d value w).1
 
--- and by the steps that add a pair, fire and unpause, and those of a queue, each with the firing that follows
+-- and by the steps that bind a name, add a pair, fire and unpause, and those of a queue, each with the firing that
+-- follows
 pub record Calm (R : World → World → Type 0) : Type 0 where
   pub quiet : Quiet R
   pub stops : (w : World) → R w (with_stop w)
@@ -212,6 +174,7 @@ pub record Calm (R : World → World → Type 0) : Type 0 where
       → (let a = world.get_from k d w in R w (handed_to d a.0 a.1))
   pub by_withdraw : (of d k : ℕ) (w : World) → (cancel of w).0 ≡ reached.ForItem d k
       → R w (fire d cancelled (world.withdraw k d (cancel of w).1)).1
+  pub by_name : (d : ℕ) (name : List ℕ) (w : World) → R w (aside (entry.Name d (Some name)) (naming name d) w)
   pub by_append : (d : ℕ) (pair : Pair) (w : World) → R w (append d pair w)
   pub by_fire : (d : ℕ) (value : Value) (w : World) → R w (fire d value w).1
   pub by_fire_guarded : (d : ℕ) (w : World) → WasCancelled d w → R w (fire_guarded d w)
@@ -220,48 +183,23 @@ pub record Calm (R : World → World → Type 0) : Type 0 where
 pub record Calmly (w u : World) : Type 1 where
   pub keeps : (R : World → World → Type 0) → Calm R → R w u
 
-abbrev pub PutsNothing : Frame → Type 0
-PutsNothing (frame.Settle d) = Unit {0}
-PutsNothing (frame.Place d) = ⊥
-PutsNothing (frame.Rest rest) = Unit {0}
-PutsNothing (frame.Canceller d) = Unit {0}
-PutsNothing (frame.Maybe purpose) = Unit {0}
-PutsNothing (frame.Add d pair) = Unit {0}
-PutsNothing (frame.Cancel d) = Unit {0}
-PutsNothing (frame.Give given) = Unit {0}
-PutsNothing (frame.Notify d t) = Unit {0}
-PutsNothing (frame.Stepped t) = Unit {0}
-PutsNothing (frame.Tick units) = Unit {0}
-PutsNothing frame.Tell = Unit {0}
-PutsNothing frame.Due = Unit {0}
-PutsNothing (frame.Inline inlining) = Unit {0}
-
-abbrev pub AllPutNothing : List Frame → Type 0
-AllPutNothing [] = Unit {0}
-AllPutNothing (f ∷ fs) = PutsNothing f × AllPutNothing fs
-
--- a rule leads on so, and leaves such frames
-pub record Mild (w : World) (t : Turned) : Type 1 where
-  pub comes : Calmly w t.2
-  pub free : AllPutNothing t.0
-
-same : (w : World) → Quietly w w
+pub same : (w : World) → Quietly w w
 same w = record { keeps = λ R l. l.stays w }
 
 join : (u v w : World) → Quietly u v → Quietly v w → Quietly u w
 join u v w a b = record { keeps = λ R l. l.joins u v w (a.keeps R l) (b.keeps R l) }
 
-by_aside : (e : Entry) (change : Objects → Objects) (w : World) → change_of e ≡ Aside → LeavesQueues (queueing_of e)
+pub by_aside : (e : Entry) (change : Objects → Objects) (w : World) → change_of e ≡ Aside → LeavesQueues (queueing_of e)
     → (Regular w.objects.loops → Clocks e w.objects.clock (change w.objects).clock)
     → (Regular w.objects.loops → Regular (change w.objects).loops) → Beside e w.objects (change w.objects)
-    → Quietly w (aside e change w)
-by_aside e change w a q c r t = record { keeps = λ R l. l.by_aside e change w a q c r t }
+    → (change w.objects).names ≡ w.objects.names → Quietly w (aside e change w)
+by_aside e change w a q c r t n = record { keeps = λ R l. l.by_aside e change w a q c r t n }
 
 by_arrange : (change : Objects → Objects) (w : World) → (change w.objects).queues ≡ w.objects.queues
     → Arranges w.objects.clock (change w.objects).clock
     → (Regular w.objects.loops → Regular (change w.objects).loops) → Arranged w.objects (change w.objects)
-    → Quietly w (arrange change w)
-by_arrange change w q s r t = record { keeps = λ R l. l.by_arrange change w q s r t }
+    → (change w.objects).names ≡ w.objects.names → Quietly w (arrange change w)
+by_arrange change w q s r t n = record { keeps = λ R l. l.by_arrange change w q s r t n }
 
 by_make : (name : Option (List ℕ)) (canceller : Option Canceller) (w : World) → Quietly w (make name canceller w)
 by_make name canceller w = record { keeps = λ R l. l.by_make name canceller w }
@@ -274,10 +212,6 @@ first_comes : {A : Type 0} (b : Bool) (t u : A × World) (w : World) → Quietly
     → Quietly w (if b then t else u).1
 first_comes true t u w c d = c
 first_comes false t u w c d = d
-
-free_append : (fs gs : List Frame) → AllPutNothing fs → AllPutNothing gs → AllPutNothing (fs ++ gs)
-free_append [] gs h k = k
-free_append (f ∷ fs) gs h k = (h.0, free_append fs gs h.1 k)
 
 -- what is logged of a task alone, of a lock alone, of a queue alone, and of a loop alone
 task_beside : (e : Entry) (old : Objects) (new : Cooperator) → Tasks e old.cooperator new → holding_of e ≡ Unheld
@@ -325,7 +259,7 @@ ask_comes : (l d : ℕ) (o : Option Semaphore) (w : World) → slice_get w.objec
 ask_comes l d None w h = same w
 ask_comes l d (Some s) w h =
     by_aside (entry.Acquire s.name d) _ w refl tt (λ k. Leaves (refl, refl, refl)) (λ k. k)
-    (lock_beside _ _ _ (beside.LockAsked l d s h refl) refl refl refl refl refl refl)
+    (lock_beside _ _ _ (beside.LockAsked l d s h refl) refl refl refl refl refl refl) refl
 
 released_comes : (b : Bool) (l : ℕ) (s : Semaphore) (w : World) → is_unheld s ≡ b
     → slice_get w.objects.semaphores l ≡ Some s
@@ -333,7 +267,7 @@ released_comes : (b : Bool) (l : ℕ) (s : Semaphore) (w : World) → is_unheld 
 released_comes true l s w u h = same w
 released_comes false l s w u h =
     by_aside (entry.Release s.name) _ w refl tt (λ k. Leaves (refl, refl, refl)) (λ k. k)
-    (lock_beside _ _ _ (beside.LockReleased l s h u refl) refl refl refl refl refl refl)
+    (lock_beside _ _ _ (beside.LockReleased l s h u refl) refl refl refl refl refl refl) refl
 
 release_comes : (l : ℕ) (o : Option Semaphore) (w : World) → slice_get w.objects.semaphores l ≡ o
     → Quietly w (release_found l o w)
@@ -355,6 +289,11 @@ lock_queues : (l : ℕ) (change : Semaphore → Semaphore) (o : Option Semaphore
 lock_queues l change None objects = refl
 lock_queues l change (Some s) objects = refl
 
+lock_names : (l : ℕ) (change : Semaphore → Semaphore) (o : Option Semaphore) (objects : Objects)
+    → (lock_changed l change o objects).names ≡ objects.names
+lock_names l change None objects = refl
+lock_names l change (Some s) objects = refl
+
 lock_arranged : (l d : ℕ) (o : Option Semaphore) (objects : Objects) → slice_get objects.semaphores l ≡ o
     → Arranged objects (lock_changed l (forgotten d) o objects)
 lock_arranged l d None objects h = arranging _ _ refl refl refl refl refl
@@ -371,11 +310,12 @@ forget_comes l d w =
     by_arrange _ w (lock_queues l (forgotten d) (slice_get w.objects.semaphores l) w.objects)
     (lock_same l (forgotten d) (slice_get w.objects.semaphores l) w.objects)
     (lock_loops l (forgotten d) (slice_get w.objects.semaphores l) w.objects) (lock_arranged l d _ w.objects refl)
+    (lock_names l (forgotten d) (slice_get w.objects.semaphores l) w.objects)
 
 came_comes : (l i : ℕ) (v : Value) (o : Option Gather) (w : World) → Quietly w (came_to_found l i v o w).1
 came_comes l i v None w = same w
 came_comes l i v (Some g) w =
-    by_arrange (with_list l (came i v g).1) w refl Stays (λ k. k) (arranging _ _ refl refl refl refl refl)
+    by_arrange (with_list l (came i v g).1) w refl Stays (λ k. k) (arranging _ _ refl refl refl refl refl) refl
 
 came_to_comes : (l i : ℕ) (v : Value) (w : World) → Quietly w (came_to l i v w).1
 unfolding came_to
@@ -390,7 +330,7 @@ scheduled_comes l (Some x) w h =
     by_aside (entry.LaterLoop x.name (next_due x w.objects.clock)) (with_turn l x) w refl tt
     (λ k. Adds (what.Turn x.name l) (next_due x w.objects.clock) refl (turn_later x w.objects.clock (k.each l x h)))
     (λ k. regular_set l x _ w.objects.loops h refl k)
-    (loop_beside _ _ _ (beside.LoopTurns l x _ h refl refl refl refl) refl refl refl refl refl refl)
+    (loop_beside _ _ _ (beside.LoopTurns l x _ h refl refl refl refl) refl refl refl refl refl refl) refl
 
 dropped_same : (e : Entry) (o : Option ℕ) (c : Clock) → IsPlain e → Clocks e c (turn_dropped o c)
 dropped_same e None c p = Leaves p
@@ -404,6 +344,7 @@ loop_stopped_comes l (Some x) w h =
     (λ k. dropped_same (entry.Stop x.name) x.turn w.objects.clock
     (refl, refl, refl)) (λ k. regular_set l x _ w.objects.loops h refl k)
     (loop_beside _ _ _ (beside.LoopsRest _ refl (beside.LoopSet l x _ h refl refl refl)) refl refl refl refl refl refl)
+    refl
 
 ended_same : (l : ℕ) (o : Option LoopingCall) (objects : Objects)
     → Arranges objects.clock (with_ended l o objects).clock
@@ -413,6 +354,10 @@ ended_same l (Some x) objects = Stays
 ended_queues : (l : ℕ) (o : Option LoopingCall) (objects : Objects) → (with_ended l o objects).queues ≡ objects.queues
 ended_queues l None objects = refl
 ended_queues l (Some x) objects = refl
+
+ended_names : (l : ℕ) (o : Option LoopingCall) (objects : Objects) → (with_ended l o objects).names ≡ objects.names
+ended_names l None objects = refl
+ended_names l (Some x) objects = refl
 
 ended_loops : (l : ℕ) (o : Option LoopingCall) (objects : Objects) → slice_get objects.loops l ≡ o
     → Regular objects.loops → Regular (with_ended l o objects).loops
@@ -435,6 +380,7 @@ end_loop_comes l w =
     by_arrange _ w (ended_queues l (slice_get w.objects.loops l) w.objects)
     (ended_same l (slice_get w.objects.loops l) w.objects) (ended_loops l (slice_get w.objects.loops l) w.objects refl)
     (loop_arranged l (slice_get w.objects.loops l) w.objects refl)
+    (ended_names l (slice_get w.objects.loops l) w.objects)
 
 told_task_comes : (e : Task → Entry) (change : Task → Cooperator → Cooperator) (o : Option Task) (w : World)
     → ((x : Task) → change_of (e x) ≡ Aside) → ((x : Task) → LeavesQueues (queueing_of (e x)))
@@ -443,18 +389,18 @@ told_task_comes : (e : Task → Entry) (change : Task → Cooperator → Coopera
     → Quietly w (task_told e change o w)
 told_task_comes e change None w a l t k = same w
 told_task_comes e change (Some x) w a l t k =
-    by_aside (e x) (cooperating (change x)) w (a x) (l x) (λ r. Leaves (t x)) (λ r. r) (k x refl)
+    by_aside (e x) (cooperating (change x)) w (a x) (l x) (λ r. Leaves (t x)) (λ r. r) (k x refl) refl
 
 dropped_comes : (o : Option ℕ) (w : World) → Quietly w (tick_dropped o w)
 dropped_comes None w = same w
 dropped_comes (Some number) w =
-    by_arrange (without_tick number) w refl (Loses number) (λ k. k) (arranging _ _ refl refl refl refl refl)
+    by_arrange (without_tick number) w refl (Loses number) (λ k. k) (arranging _ _ refl refl refl refl refl) refl
 
 later_comes : (w : World) → Quietly w (schedule_tick w)
 later_comes w =
     by_aside (entry.LaterTick (w.objects.clock.time + w.objects.cooperator.delay))
     (with_tick (w.objects.clock.time + w.objects.cooperator.delay)) w refl tt (λ k. Adds what.Tick _ refl (omega arith))
-    (λ k. k) (resting _ _ _ refl refl refl refl refl refl refl refl refl)
+    (λ k. k) (resting _ _ _ refl refl refl refl refl refl refl refl refl) refl
 
 keep_comes : (w u : World) → Quietly w u → Quietly w (keep_tick u)
 keep_comes w u c =
@@ -476,28 +422,28 @@ task_ended_comes t end None w h = same w
 task_ended_comes t end (Some x) w h =
     let found = unended_is (slice_get w.objects.cooperator.tasks t) x h in
     by_aside (entry.End x.name (result_of x.name end)) _ w refl tt (λ k. Leaves (refl, refl, refl)) (λ k. k)
-    (task_beside _ _ _ (beside.TaskEnds t end x found.0 found.1 refl) refl refl refl)
+    (task_beside _ _ _ (beside.TaskEnds t end x found.0 found.1 refl) refl refl refl) refl
 
 inlining_comes : (i : ℕ) (v : Value) (w : World) → Quietly w (come_to_inline i v w).1
 unfolding come_to_inline
 inlining_comes i v w =
     let t = come_to i v w.objects.inlines in
     first_comes w.stopped (None, w) (t.0, arrange (inlining (λ inlines. t.1)) w) w (same w)
-    (by_arrange _ w refl Stays (λ k. k) (arranging _ _ refl refl refl refl refl))
+    (by_arrange _ w refl Stays (λ k. k) (arranging _ _ refl refl refl refl refl) refl)
 
 end_await_comes : (i e : ℕ) (p : Position) (w : World) → Quietly w (end_await i e p w).1
 unfolding end_await
 end_await_comes i e p w =
     let t = end_adding i e p w.objects.inlines in
     first_comes w.stopped (None, w) (t.0, arrange (inlining (λ inlines. t.1)) w) w (same w)
-    (by_arrange _ w refl Stays (λ k. k) (arranging _ _ refl refl refl refl refl))
+    (by_arrange _ w refl Stays (λ k. k) (arranging _ _ refl refl refl refl refl) refl)
 
 waiting_comes : (number at : ℕ) (due : Due) (w : World)
     → slice_get w.objects.clock.calls number ≡ Some (record { due = at; state = call_state.Waiting due })
     → Quietly w (waiting_cancelled number due w)
 waiting_comes number at (what.Call name key) w h =
     by_aside (entry.Uncall name) (with_ended_call number call_state.Cancelled) w refl tt
-    (λ k. Cancels number at name key h refl) (λ k. k) (resting _ _ _ refl refl refl refl refl refl refl refl refl)
+    (λ k. Cancels number at name key h refl) (λ k. k) (resting _ _ _ refl refl refl refl refl refl refl refl refl) refl
 waiting_comes number at (what.Turn name key) w h = same w
 waiting_comes number at what.Tick w h = same w
 waiting_comes number at (what.Delivery job key) w h = same w
@@ -534,7 +480,7 @@ waiting_anew number from delay at (what.Call name key) w h =
     let new = new_due from (min delay MOST_DELAY) at now in
     by_aside (entry.Reset name new) (with_moved_call number new) w refl tt
     (λ k. Moves number at new name key h refl (new_later from (min delay MOST_DELAY) at now)) (λ k. k)
-    (resting _ _ _ refl refl refl refl refl refl refl refl refl)
+    (resting _ _ _ refl refl refl refl refl refl refl refl refl) refl
 waiting_anew number from delay at (what.Turn name key) w h = same w
 waiting_anew number from delay at what.Tick w h = same w
 waiting_anew number from delay at (what.Delivery job key) w h = same w
@@ -565,19 +511,19 @@ call_later_comes name delay body w =
     let due = w.objects.clock.time + min delay MOST_DELAY in by_aside (entry.LaterCall name due)
     (with_new_call name due body) w refl tt
     (λ k. Adds (what.Call name (length w.objects.bodies)) due refl (omega arith))
-    (λ k. k) (resting _ _ _ refl refl refl refl refl refl refl refl refl)
+    (λ k. k) (resting _ _ _ refl refl refl refl refl refl refl refl refl) refl
 
 timer_comes : (d delay : ℕ) (w : World) → Quietly w (start_timer d delay w)
 timer_comes d delay w =
     let due = w.objects.clock.time + min delay MOST_DELAY in
     by_aside (entry.LaterTimeout d due) (with_timer d due) w refl tt (λ k. Adds (what.Timeout d) due refl (omega arith))
-    (λ k. k) (resting _ _ _ refl refl refl refl refl refl refl refl refl)
+    (λ k. k) (resting _ _ _ refl refl refl refl refl refl refl refl refl) refl
 
 delivery_comes : (job d delay : ℕ) (w : World) → Quietly w (deliver_later job d delay w)
 delivery_comes job d delay w =
     let due = w.objects.clock.time + min delay MOST_DELAY in
     by_aside (entry.LaterJob job due) (with_delivery job d due) w refl tt (λ k. Adds (what.Delivery job d) due refl
-    (omega arith)) (λ k. k) (resting _ _ _ refl refl refl refl refl refl refl refl refl)
+    (omega arith)) (λ k. k) (resting _ _ _ refl refl refl refl refl refl refl refl refl) refl
 
 due_aside : (due : Due) → change_of (coming_due due) ≡ Aside
 due_aside (what.Call name key) = refl
@@ -623,9 +569,9 @@ upcoming_comes (Some call) w h =
     by_aside (coming_due call.what) (with_ended_call call.number call_state.Called) w (due_aside call.what)
     (due_leaves call.what)
     (λ k. Runs call h refl) (λ k. k) (resting _ _ _ (due_untasked call.what) (due_unheld call.what)
-    (due_unqueued call.what) (due_unlooped call.what) refl refl refl refl refl)
+    (due_unqueued call.what) (due_unlooped call.what) refl refl refl refl refl) refl
 
--- 1. Steps: all but those by which a Deferred is settled and time goes on.
+-- Steps: all but those by which a Deferred is settled and time goes on.
 
 -- a Deferred to which a pair is added is settled at once, and so is one that is fired since it was cancelled, directly
 -- after the cancel
@@ -633,6 +579,7 @@ abbrev pub IsQuiet : steps.Step → Type 0
 IsQuiet (steps.Put d v) = ⊥
 IsQuiet (steps.PutDeferred d e) = ⊥
 IsQuiet (steps.Advance ticks) = ⊥
+IsQuiet (steps.Name d name) = ⊥
 IsQuiet (steps.Append d pair) = ⊥
 IsQuiet (steps.FireGuarded d) = ⊥
 IsQuiet (steps.Withdraw k d) = ⊥
@@ -663,49 +610,49 @@ AsksQuietly question = Unit {0}
 
 pub step_quiet : (step : steps.Step) (w : World) → IsQuiet step → Quietly w (stepped step w)
 step_quiet (steps.Make name canceller) w m = by_make name canceller w
-step_quiet (steps.Name d name) w m =
-    by_aside (entry.Name d (Some name)) _ w refl tt (λ k. Leaves (refl, refl, refl)) (λ k. k)
-    (resting _ _ _ refl refl refl refl refl refl refl refl refl)
+step_quiet (steps.Name d name) w m = absurd m
 step_quiet (steps.Append d pair) w m = absurd m
 step_quiet (steps.FireGuarded d) w m = absurd m
 step_quiet (steps.Pause d) w m = record { keeps = λ R l. l.by_pause d w }
 step_quiet (steps.Note text) w m =
     by_aside (entry.Note text) _ w refl tt (λ k. Leaves (refl, refl, refl)) (λ k. k)
-    (resting _ _ _ refl refl refl refl refl refl refl refl refl)
+    (resting _ _ _ refl refl refl refl refl refl refl refl refl) refl
 step_quiet (steps.TellTurn name) w m =
     by_aside (entry.Turn name) _ w refl tt (λ k. Leaves (refl, refl, refl)) (λ k. k)
-    (resting _ _ _ refl refl refl refl refl refl refl refl refl)
+    (resting _ _ _ refl refl refl refl refl refl refl refl refl) refl
 step_quiet (steps.TellUnhandled failure) w m =
     by_aside (entry.Unhandled failure) _ w refl tt (λ k. Leaves (refl, refl, refl)) (λ k. k)
-    (resting _ _ _ refl refl refl refl refl refl refl refl refl)
+    (resting _ _ _ refl refl refl refl refl refl refl refl refl) refl
 step_quiet (steps.NewLock name) w m =
     by_aside (entry.Lock name) _ w refl tt (λ k. Leaves (refl, refl, refl)) (λ k. k)
-    (lock_beside _ _ _ (beside.LockMade name 1 refl) refl refl refl refl refl refl)
+    (lock_beside _ _ _ (beside.LockMade name 1 refl) refl refl refl refl refl refl) refl
 step_quiet (steps.NewSemaphore name tokens) w m =
     by_aside (entry.Semaphore name tokens) _ w refl tt (λ k. Leaves (refl, refl, refl)) (λ k. k)
-    (lock_beside _ _ _ (beside.LockMade name tokens refl) refl refl refl refl refl refl)
+    (lock_beside _ _ _ (beside.LockMade name tokens refl) refl refl refl refl refl refl) refl
 step_quiet (steps.Ask l d) w m = ask_comes l d (slice_get w.objects.semaphores l) w refl
 step_quiet (steps.Release l) w m = release_comes l (slice_get w.objects.semaphores l) w refl
 step_quiet (steps.Forget l d) w m = forget_comes l d w
 step_quiet (steps.NewQueue name size backlog) w m =
     by_aside (entry.Queue name size backlog) _ w refl tt (λ k. Leaves (refl, refl, refl)) (λ k. k)
-    (queue_beside _ _ _ (beside.QueueMade name size backlog refl) refl refl refl refl refl refl)
+    (queue_beside _ _ _ (beside.QueueMade name size backlog refl) refl refl refl refl refl refl) refl
 step_quiet (steps.Withdraw k d) w m = absurd m
-step_quiet (steps.NewList n flags) w m = by_arrange _ w refl Stays (λ k. k) (arranging _ _ refl refl refl refl refl)
+step_quiet (steps.NewList n flags) w m =
+    by_arrange _ w refl Stays (λ k. k) (arranging _ _ refl refl refl refl refl) refl
 step_quiet (steps.StartTimer d delay) w m = timer_comes d delay w
 step_quiet (steps.EndTimer t) w m =
-    by_arrange (with_ended_call t call_state.Dropped) w refl (Loses t) (λ k. k) (arranging _ _ refl refl refl refl refl)
+    by_arrange (with_ended_call t call_state.Dropped) w refl (Loses t) (λ k. k)
+    (arranging _ _ refl refl refl refl refl) refl
 step_quiet (steps.CallLater name delay body) w m = call_later_comes name delay body w
 step_quiet (steps.NewLoop name d interval body) w m =
     by_aside (entry.Loop name d) _ w refl tt (λ k. Leaves (refl, refl, refl))
     (λ k. regular_push (new_loop name d w.objects.clock.time interval body) w.objects.loops (new_regular interval) k)
-    (loop_beside _ _ _ (beside.LoopStarts name d interval body refl) refl refl refl refl refl refl)
+    (loop_beside _ _ _ (beside.LoopStarts name d interval body refl) refl refl refl refl refl refl) refl
 step_quiet (steps.ScheduleTurn l) w m = scheduled_comes l (slice_get w.objects.loops l) w refl
 step_quiet (steps.StopLoop l) w m = loop_stopped_comes l (slice_get w.objects.loops l) w refl
 step_quiet (steps.EndLoop l) w m = end_loop_comes l w
 step_quiet (steps.NewTask name bodies) w m =
     by_aside (entry.Task name) _ w refl tt (λ k. Leaves (refl, refl, refl)) (λ k. k)
-    (task_beside _ _ _ (beside.TaskMade name bodies refl) refl refl refl)
+    (task_beside _ _ _ (beside.TaskMade name bodies refl) refl refl refl) refl
 step_quiet (steps.AwaitTask t d) w m =
     told_task_comes (λ x. entry.WhenDone x.name d) _ (slice_get w.objects.cooperator.tasks t) w (λ x. refl)
     (λ x. tt) (λ x. (refl, refl, refl)) (λ x g. task_beside _ _ _ (beside.TaskAwaited t d x g refl) refl refl refl)
@@ -720,23 +667,23 @@ step_quiet (steps.HoldTask t e) w m =
     (λ x. tt) (λ x. (refl, refl, refl)) (λ x g. task_beside _ _ _ (beside.TaskPaused t x g refl) refl refl refl)
 step_quiet (steps.SetUnits units) w m =
     by_aside (entry.Units units) _ w refl tt (λ k. Leaves (refl, refl, refl)) (λ k. k)
-    (resting _ _ _ refl refl refl refl refl refl refl refl refl)
+    (resting _ _ _ refl refl refl refl refl refl refl refl refl) refl
 step_quiet steps.KeepTick w m = keep_comes w w (same w)
-step_quiet steps.BeginTick w m = by_arrange _ w refl Stays (λ k. k) (arranging _ _ refl refl refl refl refl)
-step_quiet steps.EndTick w m = by_arrange _ w refl Stays (λ k. k) (arranging _ _ refl refl refl refl refl)
-step_quiet steps.AddInline w m = by_arrange _ w refl Stays (λ k. k) (arranging _ _ refl refl refl refl refl)
+step_quiet steps.BeginTick w m = by_arrange _ w refl Stays (λ k. k) (arranging _ _ refl refl refl refl refl) refl
+step_quiet steps.EndTick w m = by_arrange _ w refl Stays (λ k. k) (arranging _ _ refl refl refl refl refl) refl
+step_quiet steps.AddInline w m = by_arrange _ w refl Stays (λ k. k) (arranging _ _ refl refl refl refl refl) refl
 step_quiet (steps.BeginAwait i e) w m =
     by_aside (entry.Await i.of e) _ w refl tt (λ k. Leaves (refl, refl, refl)) (λ k. k)
-    (resting _ _ _ refl refl refl refl refl refl refl refl refl)
+    (resting _ _ _ refl refl refl refl refl refl refl refl refl) refl
 step_quiet (steps.Submit d pool work) w m = record { keeps = λ R l. l.by_submit d pool work w }
 step_quiet (steps.DeliverLater job d delay) w m = delivery_comes job d delay w
 step_quiet (steps.Advance ticks) w m = absurd m
 step_quiet steps.TellDrain w m =
     by_aside entry.Drain _ w refl tt (λ k. Leaves (refl, refl, refl)) (λ k. k)
-    (resting _ _ _ refl refl refl refl refl refl refl refl refl)
+    (resting _ _ _ refl refl refl refl refl refl refl refl refl) refl
 step_quiet (steps.TellPost caller index) w m =
     by_aside (entry.Post caller index) _ w refl tt (λ k. Leaves (refl, refl, refl)) (λ k. k)
-    (resting _ _ _ refl refl refl refl refl refl refl refl refl)
+    (resting _ _ _ refl refl refl refl refl refl refl refl refl) refl
 step_quiet (steps.Put d v) w m = absurd m
 step_quiet (steps.PutDeferred d e) w m = absurd m
 
@@ -745,7 +692,7 @@ step_taken_comes : (t : ℕ) (o : Option Task) (w : World) → turn_of w.objects
 step_taken_comes t None w h g = same w
 step_taken_comes t (Some x) w h g =
     by_aside (entry.Step x.name) (cooperating (with_step t x)) w refl tt (λ k. Leaves (refl, refl, refl)) (λ k. k)
-    (task_beside _ _ _ (beside.TaskSteps t x h g refl) refl refl refl)
+    (task_beside _ _ _ (beside.TaskSteps t x h g refl) refl refl refl) refl
 
 turn_comes : (o : Option ℕ) (w : World) → turn_of w.objects.cooperator.turns ≡ o → Quietly w (turn_taken o w).1
 turn_comes None w h = same w
@@ -754,7 +701,7 @@ turn_comes (Some t) w h = step_taken_comes t (slice_get w.objects.cooperator.tas
 pub question_quiet : (question : Question) (w : World) → AsksQuietly question → Quietly w (steps.asked question w).1
 question_quiet (steps.BeginBody declared) w m =
     by_aside (entry.Body declared.name) _ w refl tt (λ k. Leaves (refl, refl, refl)) (λ k. k)
-    (resting _ _ _ refl refl refl refl refl refl refl refl refl)
+    (resting _ _ _ refl refl refl refl refl refl refl refl refl) refl
 question_quiet (steps.Cancel d) w m = absurd m
 question_quiet (steps.PutInto k v) w m = absurd m
 question_quiet (steps.GetFrom k d) w m = absurd m
@@ -770,10 +717,10 @@ question_quiet steps.ComeDue w m = upcoming_comes (next_call w.objects.clock) w 
 question_quiet (steps.Moves d) w m = absurd m
 
 -- so they are calm, and what adds a pair or fires is, too
-quietly : (w u : World) → Quietly w u → Calmly w u
+pub quietly : (w u : World) → Quietly w u → Calmly w u
 quietly w u c = record { keeps = λ R l. c.keeps R l.quiet }
 
-join_calm : (u v w : World) → Calmly u v → Calmly v w → Calmly u w
+pub join_calm : (u v w : World) → Calmly u v → Calmly v w → Calmly u w
 join_calm u v w a b = record { keeps = λ R l. l.quiet.joins u v w (a.keeps R l) (b.keeps R l) }
 
 by_guarded : (o : Option Reached) (d : ℕ) (w : World) → HasReached o w → o ≡ Some (reached.Fire d)
@@ -783,13 +730,14 @@ by_guarded o d w h e = record { keeps = λ R l. l.by_fire_guarded d w (subst (λ
 no_withdrawal : (o : Option Reached) (k d : ℕ) (w : World) → HasReached o w → o ≡ Some (reached.ForItem d k) → ⊥
 no_withdrawal o k d w h e = subst (λ x. HasReached x w) e h
 
-step_calm : (step : steps.Step) (o : Option Reached) (w : World) → HasReached o w → IsCalm o step
+pub step_calm : (step : steps.Step) (o : Option Reached) (w : World) → HasReached o w → IsCalm o step
     → Calmly w (stepped step w)
 step_calm (steps.Put d v) o w h m = absurd m
 step_calm (steps.PutDeferred d e) o w h m = absurd m
 step_calm (steps.Advance ticks) o w h m = absurd m
 step_calm (steps.FireGuarded d) o w h m = by_guarded o d w h m
 step_calm (steps.Withdraw k d) o w h m = absurd (no_withdrawal o k d w h m)
+step_calm (steps.Name d name) o w h m = record { keeps = λ R l. l.by_name d name w }
 step_calm (steps.Append d pair) o w h m = record { keeps = λ R l. l.by_append d pair w }
 step_calm step o w h m = quietly w (stepped step w) (step_quiet step w tt)
 
@@ -831,533 +779,7 @@ unless_reaches : (b : Bool) (w : World) (p : Reached × World) → (ReachesNoIte
 unless_reaches true w p h m = tt
 unless_reaches false w p h m = h m
 
-cancel_reaches : (d : ℕ) (w : World) → ReachesNoItem (cancel d w).0 → HasReached (Some (cancel d w).0) (cancel d w).1
+pub cancel_reaches : (d : ℕ) (w : World) → ReachesNoItem (cancel d w).0
+    → HasReached (Some (cancel d w).0) (cancel d w).1
 unfolding cancel
 cancel_reaches d w = unless_reaches w.stopped w _ (told_reaches (fits w.journal (entry.Cancel d)) d w)
-
--- 2. The law.
-
--- the Deferred that a frame settles
-abbrev pub settled_by : Frame → Option ℕ
-settled_by (frame.Settle d) = Some d
-settled_by (frame.Place d) = None
-settled_by (frame.Rest rest) = None
-settled_by (frame.Canceller d) = None
-settled_by (frame.Maybe purpose) = None
-settled_by (frame.Add d pair) = None
-settled_by (frame.Cancel d) = None
-settled_by (frame.Give given) = None
-settled_by (frame.Notify d t) = None
-settled_by (frame.Stepped t) = None
-settled_by (frame.Tick units) = None
-settled_by frame.Tell = None
-settled_by frame.Due = None
-settled_by (frame.Inline inlining) = None
-
--- the first frame settles d
-abbrev pub SettlesFirst : ℕ → List Frame → Type 0
-SettlesFirst d [] = ⊥
-SettlesFirst d (f ∷ fs) = settled_by f ≡ Some d
-
--- a rule calls for it that d is settled
-abbrev pub CallsToSettle : ℕ → Rule → Type 0
-CallsToSettle d (Ends p) = ⊥
-CallsToSettle d (By rule) = ⊥
-CallsToSettle d (If b one other) = ⊥
-CallsToSettle d (Finds {A} o none some) = ⊥
-CallsToSettle d (Then step rule) = ⊥
-CallsToSettle d (Asks question rule) = ⊥
-CallsToSettle d (Fires e v) = ⊥
-CallsToSettle d (Unpauses e) = ⊥
-CallsToSettle d (Over rule frames) = SettlesFirst d frames
-
--- a rule fires d with this value
-abbrev pub IsFiring : ℕ → Value → Rule → Type 0
-IsFiring d v (Ends p) = ⊥
-IsFiring d v (By rule) = ⊥
-IsFiring d v (If b one other) = ⊥
-IsFiring d v (Finds {A} o none some) = (a : A) × (o ≡ Some a) × IsFiring d v (some a)
-IsFiring d v (Then step rule) = ⊥
-IsFiring d v (Asks question rule) = ⊥
-IsFiring d v (Fires e u) = (e ≡ d) × (u ≡ v)
-IsFiring d v (Unpauses e) = ⊥
-IsFiring d v (Over rule frames) = ⊥
-
--- a step takes d out of the line of the queue k
-abbrev pub IsWithdrawal : ℕ → ℕ → steps.Step → Type 0
-IsWithdrawal d k (steps.Withdraw j e) = (j ≡ k) × (e ≡ d)
-IsWithdrawal d k step = ⊥
-
--- a rule does so, and fires d with CancelledError
-abbrev pub IsWithdrawing : ℕ → ℕ → Rule → Type 0
-IsWithdrawing d k (Ends p) = ⊥
-IsWithdrawing d k (By rule) = ⊥
-IsWithdrawing d k (If b one other) = ⊥
-IsWithdrawing d k (Finds {A} o none some) = ⊥
-IsWithdrawing d k (Then step rule) = IsWithdrawal d k step × IsFiring d cancelled rule
-IsWithdrawing d k (Asks question rule) = ⊥
-IsWithdrawing d k (Fires e u) = ⊥
-IsWithdrawing d k (Unpauses e) = ⊥
-IsWithdrawing d k (Over rule frames) = ⊥
-
--- who is answered to have got a value is fired with it, and who is cancelled while waiting for one waits no longer; one
--- that asks a queue is made
-abbrev pub AsksCalmly : World → (question : Question) → (Reply question → Rule) → Type 0
-AsksCalmly w (steps.BeginBody declared) rule = Unit {0}
-AsksCalmly w (steps.Cancel of) rule = (d k : ℕ) → IsWithdrawing d k (rule (reached.ForItem d k))
-AsksCalmly w (steps.PutInto k v) rule = (who : ℕ × Value) → IsFiring who.0 who.1 (rule (Some who))
-AsksCalmly w (steps.GetFrom k d) rule =
-    (w.stopped ≡ false → IsMade k d w.records) × ((v : Value) → IsFiring d v (rule (Some v)))
-AsksCalmly w (steps.CameTo l i v) rule = Unit {0}
-AsksCalmly w (steps.CancelCall number) rule = Unit {0}
-AsksCalmly w (steps.ResetCall number from delay) rule = Unit {0}
-AsksCalmly w steps.TakeStep rule = Unit {0}
-AsksCalmly w (steps.EndTask t end) rule = Unit {0}
-AsksCalmly w (steps.ComeToInline i v) rule = Unit {0}
-AsksCalmly w (steps.EndAwait i e p) rule = Unit {0}
-AsksCalmly w steps.ComeDue rule = Unit {0}
-AsksCalmly w (steps.Moves d) rule = ⊥
-
--- so it does after a pair was added to d, and after d was fired since it was cancelled
-abbrev pub Follows : steps.Step → Rule → Type 0
-Follows (steps.Append d pair) rule = CallsToSettle d rule
-Follows (steps.FireGuarded d) rule = CallsToSettle d rule
-Follows step rule = Unit {0}
-
--- a rule, begun in a world, takes such steps alone, each with what follows it, and leaves nothing to be put in place
-abbrev pub Mildly : Option Reached → World → Rule → Type 0
-Mildly o w (Ends p) = Unit {0}
-Mildly o w (By rule) = Mildly o w (rule w)
-Mildly o w (If b one other) = Mildly o w one × Mildly o w other
-Mildly o w (Finds {A} x none some) = Mildly o w none × ((a : A) → Mildly o w (some a))
-Mildly o w (Then step rule) = IsCalm o step × Follows step rule × Mildly None (stepped step w) rule
-Mildly o w (Asks question rule) =
-    AsksCalmly w question rule
-    × ((a : Reply question) → Mildly (reached_by question a) (steps.asked question w).1 (rule a))
-Mildly o w (Fires d v) = Unit {0}
-Mildly o w (Unpauses d) = Unit {0}
-Mildly o w (Over rule frames) = Mildly o w rule × AllPutNothing frames
-
--- the world after a firing is the same where it is to be settled
-next_same : (d : ℕ) (o : Follow) (u : World) → (settle_next d o u).2 ≡ u
-next_same d follow.Settle u = refl
-next_same d follow.Nothing u = refl
-next_same d (follow.Raise failure) u = refl
-
-firing_runs : (d : ℕ) (v : Value) (rule : Rule) (w : World) → IsFiring d v rule
-    → (run rule w).2 ≡ (world.fire d v w).1
-firing_runs d v (Ends p) w m = absurd m
-firing_runs d v (By rule) w m = absurd m
-firing_runs d v (If b one other) w m = absurd m
-firing_runs d v (Finds o none some) w m =
-    ap (λ x. (found x (run none w) (λ a. run (some a) w)).2) m.1 ∙ firing_runs d v (some m.0) w m.2
-firing_runs d v (Then step rule) w m = absurd m
-firing_runs d v (Asks question rule) w m = absurd m
-firing_runs d v (Fires e u) w m =
-    next_same e (world.fire e u w).0 (world.fire e u w).1
-    ∙ ap (λ x. (world.fire x u w).1) m.0 ∙ ap (λ x. (world.fire d x w).1) m.1
-firing_runs d v (Unpauses e) w m = absurd m
-firing_runs d v (Over rule frames) w m = absurd m
-
-withdrawal_steps : (d k : ℕ) (step : steps.Step) (w : World) → IsWithdrawal d k step
-    → stepped step w ≡ world.withdraw k d w
-withdrawal_steps d k (steps.Withdraw j e) w m =
-    ap (λ x. world.withdraw x e w) m.0 ∙ ap (λ x. world.withdraw k x w) m.1
-withdrawal_steps d k step w m = absurd m
-
-withdrawing_runs : (d k : ℕ) (rule : Rule) (w : World) → IsWithdrawing d k rule
-    → (run rule w).2 ≡ (world.fire d cancelled (world.withdraw k d w)).1
-withdrawing_runs d k (Ends p) w m = absurd m
-withdrawing_runs d k (By rule) w m = absurd m
-withdrawing_runs d k (If b one other) w m = absurd m
-withdrawing_runs d k (Finds o none some) w m = absurd m
-withdrawing_runs d k (Then step rule) w m =
-    firing_runs d cancelled rule (stepped step w) m.1
-    ∙ ap (λ u. (world.fire d cancelled u).1) (withdrawal_steps d k step w m.0)
-withdrawing_runs d k (Asks question rule) w m = absurd m
-withdrawing_runs d k (Fires e u) w m = absurd m
-withdrawing_runs d k (Unpauses e) w m = absurd m
-withdrawing_runs d k (Over rule frames) w m = absurd m
-
--- a cancel, by whom it reaches
-other_calm : (r : Reached) (of : ℕ) (w u : World) → (cancel of w).0 ≡ r → ReachesNoItem r
-    → (HasReached (Some r) (cancel of w).1 → Calmly (cancel of w).1 u) → Calmly w u
-other_calm r of w u e q h =
-    let none = subst ReachesNoItem (sym e) q in
-    join_calm w (cancel of w).1 u (quietly w (cancel of w).1 (record { keeps = λ R l. l.by_cancel of w none }))
-    (h (subst (λ x. HasReached (Some x) (cancel of w).1) e (cancel_reaches of w none)))
-
-cancel_calm : (r : Reached) (of : ℕ) (rule : Reached → Rule) (w : World) → (cancel of w).0 ≡ r
-    → ((d k : ℕ) → IsWithdrawing d k (rule (reached.ForItem d k)))
-    → (HasReached (Some r) (cancel of w).1 → Calmly (cancel of w).1 (run (rule r) (cancel of w).1).2)
-    → Calmly w (run (rule r) (cancel of w).1).2
-cancel_calm reached.Nothing of rule w e m h = other_calm reached.Nothing of w _ e tt h
-cancel_calm (reached.Fire d) of rule w e m h = other_calm (reached.Fire d) of w _ e tt h
-cancel_calm (reached.Run d body) of rule w e m h = other_calm (reached.Run d body) of w _ e tt h
-cancel_calm (reached.ForToken d l) of rule w e m h = other_calm (reached.ForToken d l) of w _ e tt h
-cancel_calm (reached.ForItem d k) of rule w e m h =
-    subst (λ u. Calmly w u) (sym (withdrawing_runs d k (rule (reached.ForItem d k)) (cancel of w).1 (m d k)))
-    (record { keeps = λ R l. l.by_withdraw of d k w e })
-cancel_calm (reached.Children children) of rule w e m h = other_calm (reached.Children children) of w _ e tt h
-cancel_calm (reached.Inline i) of rule w e m h = other_calm (reached.Inline i) of w _ e tt h
-
--- a value that is put, or asked for, by who gets one
-put_calm : (o : Option (ℕ × Value)) (k : ℕ) (v : Value) (rule : Option (ℕ × Value) → Rule) (w : World)
-    → (world.put_into k v w).0 ≡ o → ((who : ℕ × Value) → IsFiring who.0 who.1 (rule (Some who)))
-    → (let u = (world.put_into k v w).1 in Calmly u (run (rule o) u).2 → Calmly w (run (rule o) u).2)
-put_calm None k v rule w e m h =
-    join_calm w (world.put_into k v w).1 _ (subst (λ x. Calmly w (handed x (world.put_into k v w).1)) e
-    (record { keeps = λ R l. l.by_put k v w })) h
-put_calm (Some who) k v rule w e m h =
-    subst (λ u. Calmly w u) (sym (firing_runs who.0 who.1 (rule (Some who)) (world.put_into k v w).1 (m who)))
-    (subst (λ x. Calmly w (handed x (world.put_into k v w).1)) e (record { keeps = λ R l. l.by_put k v w }))
-
-get_calm : (o : Option Value) (k d : ℕ) (rule : Option Value → Rule) (w : World) → (world.get_from k d w).0 ≡ o
-    → (w.stopped ≡ false → IsMade k d w.records) → ((v : Value) → IsFiring d v (rule (Some v)))
-    → (let u = (world.get_from k d w).1 in Calmly u (run (rule o) u).2 → Calmly w (run (rule o) u).2)
-get_calm None k d rule w e i m h =
-    join_calm w (world.get_from k d w).1 _ (subst (λ x. Calmly w (handed_to d x (world.get_from k d w).1)) e
-    (record { keeps = λ R l. l.by_get k d w i })) h
-get_calm (Some v) k d rule w e i m h =
-    subst (λ u. Calmly w u) (sym (firing_runs d v (rule (Some v)) (world.get_from k d w).1 (m v)))
-    (subst (λ x. Calmly w (handed_to d x (world.get_from k d w).1)) e (record { keeps = λ R l. l.by_get k d w i }))
-
-asked_calm : (question : Question) (rule : Reply question → Rule) (w : World) → AsksCalmly w question rule
-    → (let a = steps.asked question w in
-    (HasReached (reached_by question a.0) a.1 → Calmly a.1 (run (rule a.0) a.1).2) → Calmly w (run (rule a.0) a.1).2)
-asked_calm (steps.Cancel d) rule w m h = cancel_calm (cancel d w).0 d rule w refl m h
-asked_calm (steps.PutInto k v) rule w m h = put_calm (world.put_into k v w).0 k v rule w refl m (h tt)
-asked_calm (steps.GetFrom k d) rule w m h = get_calm (world.get_from k d w).0 k d rule w refl m.0 m.1 (h tt)
-asked_calm (steps.Moves d) rule w m h = absurd m
-asked_calm question rule w m h =
-    let u = (steps.asked question w).1 in join_calm w u _ (quietly w u (question_quiet question w tt)) (h tt)
-
-next_calm : (d : ℕ) (o : Follow) (w u : World) → Calmly w u → Calmly w (settle_next d o u).2
-next_calm d o w u c = subst (λ x. Calmly w x) (sym (next_same d o u)) c
-
-either_calm : (b : Bool) (w : World) (t u : Turned) → Calmly w t.2 → Calmly w u.2 → Calmly w (if b then t else u).2
-either_calm true w t u c d = c
-either_calm false w t u c d = d
-
-found_calm : {A : Type 0} (o : Option A) (w : World) (t : Turned) (f : A → Turned) → Calmly w t.2
-    → ((a : A) → Calmly w (f a).2) → Calmly w (found o t f).2
-found_calm None w t f c d = c
-found_calm (Some a) w t f c d = d a
-
-pub rule_calm : (rule : Rule) (o : Option Reached) (w : World) → HasReached o w → Mildly o w rule
-    → Calmly w (run rule w).2
-rule_calm (Ends p) o w h m = quietly w w (same w)
-rule_calm (By rule) o w h m = rule_calm (rule w) o w h m
-rule_calm (If b one other) o w h m =
-    either_calm b w (run one w) (run other w) (rule_calm one o w h m.0) (rule_calm other o w h m.1)
-rule_calm (Finds x none some) o w h m =
-    found_calm x w (run none w) (λ a. run (some a) w) (rule_calm none o w h m.0) (λ a. rule_calm (some a) o w h (m.1 a))
-rule_calm (Then step rule) o w h m =
-    join_calm w (stepped step w) _ (step_calm step o w h m.0) (rule_calm rule None (stepped step w) tt m.2)
-rule_calm (Asks question rule) o w h m =
-    let a = steps.asked question w in
-    asked_calm question rule w m.0 (λ r. rule_calm (rule a.0) (reached_by question a.0) a.1 r (m.1 a.0))
-rule_calm (Fires d v) o w h m =
-    next_calm d (world.fire d v w).0 w (world.fire d v w).1 (record { keeps = λ R l. l.by_fire d v w })
-rule_calm (Unpauses d) o w h m =
-    next_calm d (world.unpause d w).0 w (world.unpause d w).1 (record { keeps = λ R l. l.by_unpause d w })
-rule_calm (Over rule frames) o w h m = rule_calm rule o w h m.0
-
-next_free : (d : ℕ) (o : Follow) (u : World) → AllPutNothing (settle_next d o u).0
-next_free d follow.Settle u = (tt, tt)
-next_free d follow.Nothing u = tt
-next_free d (follow.Raise failure) u = tt
-
-either_free : (b : Bool) (t u : Turned) → AllPutNothing t.0 → AllPutNothing u.0 → AllPutNothing (if b then t else u).0
-either_free true t u c d = c
-either_free false t u c d = d
-
-found_free : {A : Type 0} (o : Option A) (t : Turned) (f : A → Turned) → AllPutNothing t.0
-    → ((a : A) → AllPutNothing (f a).0) → AllPutNothing (found o t f).0
-found_free None t f c d = c
-found_free (Some a) t f c d = d a
-
-pub rule_free : (rule : Rule) (o : Option Reached) (w : World) → Mildly o w rule → AllPutNothing (run rule w).0
-rule_free (Ends p) o w m = tt
-rule_free (By rule) o w m = rule_free (rule w) o w m
-rule_free (If b one other) o w m =
-    either_free b (run one w) (run other w) (rule_free one o w m.0) (rule_free other o w m.1)
-rule_free (Finds x none some) o w m =
-    found_free x (run none w) (λ a. run (some a) w) (rule_free none o w m.0) (λ a. rule_free (some a) o w (m.1 a))
-rule_free (Then step rule) o w m = rule_free rule None (stepped step w) m.2
-rule_free (Asks question rule) o w m =
-    let a = steps.asked question w in rule_free (rule a.0) (reached_by question a.0) a.1 (m.1 a.0)
-rule_free (Fires d v) o w m = next_free d (world.fire d v w).0 (world.fire d v w).1
-rule_free (Unpauses d) o w m = next_free d (world.unpause d w).0 (world.unpause d w).1
-rule_free (Over rule frames) o w m = free_append (run rule w).0 frames (rule_free rule o w m.0) m.1
-
--- 3. The page: a tactic finds it of each rule; by hand what lists, tests of what is named, or another rule make.
-add_free : (l d i : ℕ) (cs : List ℕ) → AllPutNothing (page.add_children l d i cs)
-add_free l d i [] = tt
-add_free l d i (c ∷ cs) = (tt, add_free l d (1 + i) cs)
-
-children_free : (cs : List ℕ) → AllPutNothing (page.cancel_children cs)
-children_free [] = tt
-children_free (c ∷ cs) = (tt, (tt, children_free cs))
-
-notify_free : (t : ℕ) (ds : List ℕ) → AllPutNothing (page.notify_all t ds)
-notify_free t [] = tt
-notify_free t (d ∷ ds) = (tt, (tt, notify_free t ds))
-
-used_free : (purpose : Purpose) (d : ℕ) → AllPutNothing (page.used_for purpose d)
-used_free (Named name) d = tt
-used_free (Holding l) d = (tt, (tt, tt))
-used_free (Turning l) d = (tt, tt)
-
-all_mild : (o : Found) (r : List ℕ → Rule) (w : World) → ((ds : List ℕ) → Mildly None w (r ds))
-    → Mildly None w (words.on_found o r)
-all_mild (All ds) r w h = h ds
-all_mild (Unbound name) r w h = tt
-
-list_mild : (name children : List ℕ) (flags : Flags) (w : World) → Mildly None w (page.list name children flags)
-list_mild name children flags w = (tt, tt, (tt, tt, ((tt, tt), add_free _ _ 0 children)))
-
--- a Deferred that is made with a queue that it asks
-at_last : {X : Type 0} (l : List X) (x : X) → slice_get (l ++ x ∷ []) (length l) ≡ Some x
-at_last [] x = refl
-at_last (y ∷ l) x = at_last l x
-
-made_named : (b : Bool) (name : List ℕ) (k : ℕ) (w : World)
-    → (let made = new_record (Some name) (Some (canceller.Item k)) in
-    let t = cond {A = Result ℕ Stop × Both} b (
-      Ok (length w.records),
-      telling_of (entry.New (length w.records) (Some name)) (w.records ++ made ∷ []) (state_of w),
-    ) (Err stop.Limit, state_of w) in
-    let u = world.named (Some name) t.0 t.1 w in u.stopped ≡ false → IsMade k (length w.records) u.records)
-made_named true name k w h = record {
-  made = new_record (Some name) (Some (canceller.Item k));
-  found = at_last w.records (new_record (Some name) (Some (canceller.Item k)));
-  item = refl;
-  fresh = refl;
-}
-made_named false name k w h = absurd cc
-
-made_unless : (b : Bool) (w u : World) (d k : ℕ) → w.stopped ≡ b → (u.stopped ≡ false → IsMade k d u.records)
-    → (let v = cond b w u in v.stopped ≡ false → IsMade k d v.records)
-made_unless true w u d k e m h = let wrong : true ≡ false = sym e ∙ h in absurd cc
-made_unless false w u d k e m h = m h
-
-made_there : (name : List ℕ) (k : ℕ) (w : World)
-    → (let u = make (Some name) (Some (canceller.Item k)) w in
-    u.stopped ≡ false → IsMade k (length w.records) u.records)
-unfolding make
-made_there name k w =
-    made_unless w.stopped w _ (length w.records) k refl
-    (made_named (fits w.journal (entry.New (length w.records) (Some name))) name k w)
-
--- one that a cancel reaches while it waits for a value
-cancel_withdraws : (d k : ℕ) → IsWithdrawing d k (page.cancel_reached (reached.ForItem d k))
-cancel_withdraws d k = ((refl, refl), (refl, refl))
-
-reached_mild : (r : Reached) (w : World) → Mildly (Some r) w (page.cancel_reached r)
-reached_mild reached.Nothing w = tt
-reached_mild (reached.Fire d) w = (refl, refl, (tt, (tt, tt)))
-reached_mild (reached.Run d body) w = search [] depth 20
-reached_mild (reached.ForToken d l) w = search [] depth 20
-reached_mild (reached.ForItem d k) w = (refl, tt, tt)
-reached_mild (reached.Children children) w = (tt, children_free children)
-reached_mild (reached.Inline i) w = search [] depth 20
-
-add_mild : (d : ℕ) (pair : Pair) (w : World) → Mildly None w (page.add d pair)
-add_mild d pair w = (tt, refl, (tt, (tt, tt)))
-
-ended_mild : (w : World) → Mildly None w page.tick_ended
-ended_mild w = (tt, tt, (tt, tt, tt))
-
-end_mild : (t : ℕ) (end : TaskEnd) (w : World) → Mildly None w (page.end_task t end)
-end_mild t end w = (tt, λ ds. (tt, tt, (tt, notify_free t ds)))
-
-await_mild : (i : Inline) (name : List ℕ) (p : Position) (w : World) → Mildly None w (page.await i name p)
-await_mild i name p w = ((tt, (tt, tt)), λ e. (tt, tt, (add_mild e (continuing i) w, (tt, tt))))
-
-resume_mild : (i : Inline) (input : Value) (w : World) → Mildly None w (page.resume i input)
-resume_mild i input w = search [] depth 20
-
-awaited_mild : (i : Inline) (e : ℕ) (p : Position) (w : World) → Mildly None w (page.after_awaiting i e p)
-awaited_mild i e p w = search [] depth 20
-
-pub carry_mild : (itself : Option ℕ) (action : Action-F Action Statement body_of.Body) (w : World)
-    → Mildly None w (page.carry_out itself action)
-carry_mild itself (Action-F.Note text) w = search [] depth 20
-carry_mild itself (Action-F.Deferred name canceller) w = search [] depth 20
-carry_mild itself (Action-F.Callback name value) w = search [] depth 20
-carry_mild itself (Action-F.Errback name class message) w = search [] depth 20
-carry_mild itself (Action-F.AddCallback name body) w = (tt, λ d. add_mild d (callback body) w)
-carry_mild itself (Action-F.AddErrback name body) w = (tt, λ d. add_mild d (errback body) w)
-carry_mild itself (Action-F.AddBoth name body) w = (tt, λ d. add_mild d (both body body) w)
-carry_mild itself (Action-F.AddCallbacks name on_value on_failure) w =
-    (tt, λ d. add_mild d (both on_value on_failure) w)
-carry_mild itself (Action-F.Chain name after) w = (tt, λ d. (tt, λ e. add_mild d (chain e) w))
-carry_mild itself (Action-F.Pause name) w = search [] depth 20
-carry_mild itself (Action-F.Unpause name) w = search [] depth 20
-carry_mild itself (Action-F.Cancel name) w =
-    (tt, λ d. (cancel_withdraws, λ r. reached_mild r (cancel d w).1))
-carry_mild itself (Action-F.AddTimeout name delay) w =
-    (tt, λ d. (tt, tt, (add_mild d (timing (length w.objects.clock.calls)) w, (tt, tt))))
-carry_mild itself (Action-F.Lock name) w = search [] depth 20
-carry_mild itself (Action-F.Semaphore name tokens) w = search [] depth 20
-carry_mild itself (Action-F.Acquire name lock) w = search [] depth 20
-carry_mild itself (Action-F.RunWith name lock body) w = search [] depth 20
-carry_mild itself (Action-F.Release lock) w = search [] depth 20
-carry_mild itself (Action-F.Maybe name body) w = search [] depth 20
-carry_mild itself (Action-F.Queue name size backlog) w = search [] depth 20
-carry_mild itself (Action-F.Put queue value) w =
-    (tt, λ k. (tt, λ q. (tt, (λ who. (who, refl, (refl, refl)), λ who. (tt, λ p. tt)))))
-carry_mild itself (Action-F.Get name queue) w = (
-  tt,
-  λ k. (tt, λ q. (tt, (tt, tt, ((made_there name k w, λ v. (v, refl, (refl, refl))), λ got. (tt, λ v. tt))))),
-)
-carry_mild itself (Action-F.List name children flags) w =
-    all_mild (deferreds_at itself children w) _ w (λ ds. list_mild name ds (page_flags.list_flags flags) w)
-carry_mild itself (Action-F.Gather name children flags) w =
-    all_mild (deferreds_at itself children w) _ w
-    (λ ds. (list_mild name ds (page_flags.gather_flags flags) w, (tt, tt)))
-carry_mild itself (Action-F.Later name delay body) w = search [] depth 20
-carry_mild itself (Action-F.CancelCall name) w = search [] depth 20
-carry_mild itself (Action-F.ResetCall name delay) w = search [] depth 20
-carry_mild itself (Action-F.DelayCall name delay) w = search [] depth 20
-carry_mild itself (Action-F.Loop name of interval at_once body) w = search [] depth 20
-carry_mild itself (Action-F.StopLoop name) w = search [] depth 20
-carry_mild itself (Action-F.Units units) w = search [] depth 20
-carry_mild itself (Action-F.Cooperate name bodies) w = search [] depth 20
-carry_mild itself (Action-F.WhenDone name task) w = search [] depth 20
-carry_mild itself (Action-F.PauseTask name) w = search [] depth 20
-carry_mild itself (Action-F.StopTask name) w = (tt, λ t. (tt, λ x. (end_mild t Stopped w, λ end. tt)))
-carry_mild itself (Action-F.ResumeTask name) w = search [] depth 20
-carry_mild itself (Action-F.Inline name statements) w = search [] depth 20
-carry_mild itself (Action-F.Thread name delay work) w = search [] depth 20
-carry_mild itself (Action-F.ThreadIn name pool delay work) w = search [] depth 20
-
-rest_mild : (itself : Option ℕ) (actions : List Action) (end : End) (input : Value) (w : World)
-    → Mildly None w (page.perform_rest itself actions end input)
-rest_mild itself [] end input w = (tt, λ declared. (tt, λ begun. (tt, λ body. (tt, (tt, tt)))))
-rest_mild itself (action ∷ rest) end input w = (carry_mild itself (out-Action action) w, (tt, tt))
-
-wanted_mild : (i : Inline) (o : Option Want) (p : Position) (w : World) → Mildly None w (page.do_wanted i o p)
-wanted_mild i None p w = tt
-wanted_mild i (Some (Do action)) p w = (carry_mild (Some i.of) (out-Action action) w, (tt, tt))
-wanted_mild i (Some (Await name)) p w = await_mild i name p w
-
-inline_mild : (x : Inlining) (o : Performed) (w : World) → Mildly None w (scripts.inline_goes x o)
-inline_mild (Goes i p) o w = (wanted_mild i (want_at (come p)) (come p) w, λ result. tt)
-inline_mild (Acted i p) o w = search [] depth 20
-inline_mild (Awaited i e p) o w = awaited_mild i e p w
-
-unless_mild : (p : Performed) (r : Rule) (w : World) → Mildly None w r → Mildly None w (scripts.unless_raised p r)
-unless_mild Done r w h = h
-unless_mild (Gave v) r w h = h
-unless_mild (Raised failure) r w h = tt
-unless_mild (Awaits e) r w h = h
-
-taken_mild : (purpose : Purpose) (e : ℕ) (w : World) → Mildly None w (page.taken_for purpose e)
-taken_mild (Named name) e w = (tt, tt, tt)
-taken_mild (Holding l) e w = (tt, (tt, (tt, tt)))
-taken_mild (Turning l) e w = (tt, (tt, tt))
-
-maybe_mild : (purpose : Purpose) (p : Performed) (w : World) → Mildly None w (page.deferred_of purpose p)
-maybe_mild purpose Done w = (tt, tt, (tt, used_free purpose (length w.records)))
-maybe_mild purpose (Gave v) w = (tt, tt, (tt, used_free purpose (length w.records)))
-maybe_mild purpose (Raised failure) w = (tt, tt, (tt, used_free purpose (length w.records)))
-maybe_mild purpose (Awaits e) w = taken_mild purpose e w
-
-step_mild : (t : ℕ) (p : Performed) (w : World) → Mildly None w (page.after_step t p)
-step_mild t Done w = tt
-step_mild t (Gave v) w = (tt, λ failure. end_mild t (Failed failure) w)
-step_mild t (Raised failure) w = end_mild t (Failed failure) w
-step_mild t (Awaits e) w = search [] depth 20
-
-due_mild : (o : Option Due) (w : World) → Mildly None w (page.run_next o)
-due_mild None w = tt
-due_mild (Some (what.Call name key)) w = search [] depth 20
-due_mild (Some (what.Turn name key)) w = search [] depth 20
-due_mild (Some what.Tick) w = search [] depth 20
-due_mild (Some (what.Delivery job d)) w = search [] depth 20
-due_mild (Some (what.Timeout d)) w = search [] depth 20
-
--- each frame but those by which a Deferred is settled
-abbrev pub IsMild : Frame → Type 0
-IsMild (frame.Settle d) = ⊥
-IsMild (frame.Place d) = ⊥
-IsMild (frame.Rest rest) = Unit {0}
-IsMild (frame.Canceller d) = Unit {0}
-IsMild (frame.Maybe purpose) = Unit {0}
-IsMild (frame.Add d pair) = Unit {0}
-IsMild (frame.Cancel d) = Unit {0}
-IsMild (frame.Give given) = Unit {0}
-IsMild (frame.Notify d t) = Unit {0}
-IsMild (frame.Stepped t) = Unit {0}
-IsMild (frame.Tick units) = Unit {0}
-IsMild frame.Tell = Unit {0}
-IsMild frame.Due = Unit {0}
-IsMild (frame.Inline inlining) = Unit {0}
-
-pub rule_mild : (f : Frame) (p : Performed) (w : World) → IsMild f → Mildly None w (scripts.rule_of f p)
-rule_mild (frame.Settle d) p w m = absurd m
-rule_mild (frame.Place d) p w m = absurd m
-rule_mild (frame.Rest rest) p w m =
-    unless_mild p _ w (rest_mild rest.itself rest.actions rest.end rest.input w)
-rule_mild (frame.Canceller d) p w m = search [] depth 20
-rule_mild (frame.Maybe purpose) p w m = maybe_mild purpose p w
-rule_mild (frame.Add d pair) p w m = add_mild d pair w
-rule_mild (frame.Cancel d) p w m = (cancel_withdraws, λ r. reached_mild r (cancel d w).1)
-rule_mild (frame.Give given) p w m = unless_mild p _ w tt
-rule_mild (frame.Notify d t) p w m = search [] depth 20
-rule_mild (frame.Stepped t) p w m = (tt, step_mild t p w)
-rule_mild (frame.Tick units) p w m = (
-  ended_mild w,
-  (tt, λ taken. (ended_mild w, λ now. ((end_mild now.0 Finished w, λ body. (tt, (tt, (tt, tt)))), (tt, tt)))),
-)
-rule_mild frame.Tell p w m = search [] depth 20
-rule_mild frame.Due p w m = (tt, λ o. due_mild o (world.come_due w).1)
-rule_mild (frame.Inline x) p w m = inline_mild x p w
-
-pub side_rule_mild : (d : ℕ) (s : Option Side) (input : Value) (w : World) → Mildly None w (page.run_side d s input)
-side_rule_mild d None input w = tt
-side_rule_mild d (Some (side.Body body)) input w = search [] depth 20
-side_rule_mild d (Some (side.Fire e)) input w = tt
-side_rule_mild d (Some (side.Timed t)) input w = search [] depth 20
-side_rule_mild d (Some (side.EndTimer t)) input w = search [] depth 20
-side_rule_mild d (Some (side.Come child)) input w = search [] depth 20
-side_rule_mild d (Some side.Results) input w = search [] depth 20
-side_rule_mild d (Some (side.Hold l body)) input w = search [] depth 20
-side_rule_mild d (Some (side.Release l)) input w = search [] depth 20
-side_rule_mild d (Some (side.NextTurn l)) input w = search [] depth 20
-side_rule_mild d (Some (side.EndLoop l)) input w = search [] depth 20
-side_rule_mild d (Some (side.ResumeTask t)) input w = search [] depth 20
-side_rule_mild d (Some (side.FailTask t)) input w = (tt, λ failure. end_mild t (Failed failure) w)
-side_rule_mild d (Some (side.Resume i)) input w = resume_mild i input w
-
--- what a rule leaves, run
-run_mild : (rule : Rule) (w : World) → Mildly None w rule → Mild w (run rule w)
-run_mild rule w m = record { comes = rule_calm rule None w tt m; free = rule_free rule None w m }
-
-pub side_mild : (d : ℕ) (s : Option Side) (input : Value) (w : World) → Mild w (side_begun d s input w)
-side_mild d s input w = run_mild (page.run_side d s input) w (side_rule_mild d s input w)
-
-pub turned_mild : (f : Frame) (p : Performed) (w : World) → IsMild f → Mild w (turned f p w)
-turned_mild f p w m = run_mild (scripts.rule_of f p) w (rule_mild f p w m)
-
--- what happens begins so, but for that time goes on
-pub action_mild : (action : Action) (w : World) → Mild w (begun None (out-Action action) w over (frame.Tell ∷ []))
-action_mild action w =
-    run_mild (Over (page.carry_out None (out-Action action)) (frame.Tell ∷ [])) w (
-      carry_mild None (out-Action action) w,
-      (tt, tt),
-    )
-
-pub drain_mild : (w : World) → Mild w (done (world.tell entry.Drain w))
-drain_mild w = record {
-  comes = quietly w _ (by_aside entry.Drain _ w refl tt (λ k. Leaves (refl, refl, refl)) (λ k. k)
-      (resting _ _ _ refl refl refl refl refl refl refl refl refl));
-  free = tt;
-}
-
-pub post_comes : (caller index : ℕ) (w : World) → Calmly w (world.tell (entry.Post caller index) w)
-post_comes caller index w =
-    quietly w _ (by_aside (entry.Post caller index) _ w refl tt (λ k. Leaves (refl, refl, refl)) (λ k. k)
-    (resting _ _ _ refl refl refl refl refl refl refl refl refl))

@@ -4,8 +4,11 @@ pub mod OnceLemmas
 pub mod Clocks
 pub mod Beside
 pub mod Calm
+pub mod Mild
 pub mod Steps
 pub mod Stays
+pub mod Made
+pub mod MadeRules
 pub mod Still
 pub mod Settles
 pub mod HandOversLemmas
@@ -18,6 +21,7 @@ pub mod CallsLemmas
 pub mod ReadyLemmas
 pub mod OrderLemmas
 pub mod Settlings
+pub mod Idle
 pub mod SettledLemmas
 pub mod TasksLemmas
 pub mod TokensLemmas

@@ -1,5 +1,5 @@
 -- A queue serves those that ask in the order in which they ask: one that a cancel reaches while it waits leaves.
-use Rattle.std.proofs.Common.{◌≡◌, ℕ, ◌+◌, ◌≤◌, ◌++◌, Bool, true, false, List, [], ◌∷◌, Option, None, Some, Result, Ok}
+use Rattle.std.proofs.Common.{◌≡◌, ℕ, ◌≤◌, ◌++◌, Bool, true, false, List, [], ◌∷◌, Option, None, Some, Ok}
 use Rattle.std.proofs.Common.{Err, refl, sym, ap, subst, ◌∙◌, arith, slice_get, slice_set, cond}
 use Rattle.std.specs.Prelude.{bytes_eq}
 use Rattle.std.proofs.lemmas.List.Sums.{sum_by_push}
@@ -22,14 +22,14 @@ use Rattle.dv_prims.specs.Tokens.{is_waiting, without}
 use Rattle.dv_loop.proofs.Kept.{Kind}
 use Rattle.dv_world.specs.World.{World, Records, state_of, with_stop, fire, fired, cancel, withdraw, arrange}
 use Rattle.dv_world.specs.World.{reached_from}
-use Rattle.dv_laws.specs.Served.{made_by, queues_made, Line, line, IsCancelled, IsTakenOut, Next, Leaves, Leads, Goes}
+use Rattle.dv_laws.specs.Served.{made_by, queues_made, Line, line, IsCancelled, Next, Leaves, Leads, Goes}
 use Rattle.dv_laws.specs.Stored.{queueing_of}
 use Rattle.dv_laws.proofs.ReadBackLemmas.{ReadsBack, reads}
 use Rattle.dv_laws.proofs.ServedLemmas.{Served, rests_next, fire_goes}
-use Rattle.dv_laws.proofs.ServedLines.{own, line_of, named, named_set, line_own, line_set, line_same, given_none}
+use Rattle.dv_laws.proofs.ServedLines.{line_of, named, named_set, line_own, line_set, line_same, given_none}
 use Rattle.dv_laws.proofs.ServedLines.{without_absent, still_waiting, waits_in}
-use Rattle.dv_laws.proofs.ServedWaiters.{ItemReached, item_reached, same_queue, not_cancelled, ends_comes, Alike}
-use Rattle.dv_laws.proofs.ServedWaiters.{alike_set, Waiters, IsIn, Fewer, fewer_same, fewer_set}
+use Rattle.dv_laws.proofs.ServedWaiters.{ItemReached, item_reached, same_queue, not_cancelled, ends_comes}
+use Rattle.dv_laws.proofs.ServedWaiters.{alike_set, Waiters, Fewer, fewer_same, fewer_set}
 use Rattle.dv_laws.proofs.Steps.{telling_in}
 
 -- 1. The line of a queue without d.

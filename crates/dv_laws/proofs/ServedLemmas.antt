@@ -1,48 +1,37 @@
 -- A queue serves those that ask in the order in which they ask: what each entry leaves.
-use Rattle.std.proofs.Common.{◌≡◌, ◌⊎◌, inl, inr, ⊎_elim, ℕ, zero, suc, ◌+◌, ◌≤◌, ◌++◌, Bool, true, false, nat_eq, List}
-use Rattle.std.proofs.Common.{[], ◌∷◌, Option, None, Some, Ok, Err, refl, sym, ap, subst, ◌∙◌, arith, slice_get}
+use Rattle.std.proofs.Common.{◌≡◌, ◌⊎◌, inl, inr, ℕ, ◌+◌, ◌≤◌, ◌++◌, true, false, List}
+use Rattle.std.proofs.Common.{[], ◌∷◌, None, Some, refl, sym, ap, subst, ◌∙◌, arith, slice_get}
 use Rattle.std.proofs.Common.{slice_set}
-use Rattle.std.proofs.Common.{cond, length}
-use Rattle.std.specs.Prelude.{bytes_eq}
-use Rattle.std.proofs.lemmas.Bool.{eqb-true}
+use Rattle.std.proofs.Common.{cond}
 use Rattle.std.proofs.lemmas.List.Sums.{sum_by_push}
-use Rattle.std.proofs.lemmas.Slice.Eq.{bytes_eq-Decides}
 use Rattle.dv_value.specs.declared.value.Value.{Value}
 use Rattle.dv_journal.specs.Journal.{fits, with_entry}
 use Rattle.dv_journal.specs.declared.entry.Entry.{Entry}
 use Rattle.dv_journal.specs.declared.entry.Entry.TheVariants as entry
-use Rattle.dv_journal.specs.declared.error.Fault.TheVariants as fault
 use Rattle.dv_store.specs.Fire as firing
 use Rattle.dv_store.specs.Fire.{with_firing}
-use Rattle.dv_store.specs.declared.store.Fired.TheVariants.{Set}
-use Rattle.dv_objects.specs.Objects.{Objects, with_queue, queue_changed}
-use Rattle.dv_objects.specs.Pair.{Pair}
 use Rattle.dv_objects.specs.Refusals.{cancelled}
-use Rattle.dv_objects.specs.declared.canceller.Canceller.{Canceller}
 use Rattle.dv_objects.specs.declared.follow.Follow.TheVariants as follow
-use Rattle.dv_objects.specs.declared.reached.Reached.{Reached}
-use Rattle.dv_objects.specs.declared.reached.Reached.TheVariants as reached
-use Rattle.dv_prims.specs.Queue.{Queue, may_put, new_queue, receiver, put_to, got_from, withdrawn}
-use Rattle.dv_prims.specs.Tokens.{is_waiting, without}
-use Rattle.dv_loop.proofs.Kept.{Both, Kind, telling_of}
-use Rattle.dv_world.specs.World.{World, Records, state_of, with_stop, fire, fired, cancel, withdraw, arrange}
+use Rattle.dv_prims.specs.Queue.{Queue}
+use Rattle.dv_loop.proofs.Kept.{Kind}
+use Rattle.dv_world.specs.World.{World, state_of, with_stop, fire, fired}
 use Rattle.dv_world.specs.World.{reached_from}
 use Rattle.dv_laws.specs.Served.{made_by, queues_made, Line, line, Firing, Fired, Refused, IsCancelled, IsTakenOut}
 use Rattle.dv_laws.specs.Served.{Next}
-use Rattle.dv_laws.specs.Served.{Gives, Stores, Takes, Waits, Fires, Leaves, Rests, Leads, Goes}
+use Rattle.dv_laws.specs.Served.{Fires, Rests, Leads, Goes}
 use Rattle.dv_laws.specs.Swallowed.{ComesTo}
 use Rattle.dv_laws.specs.Stored.{Unqueued, queueing_of, puts_by, gets_by}
 use Rattle.dv_laws.proofs.At.{counted_of, at}
-use Rattle.dv_laws.proofs.Calm.{IsMade, ReachesNoItem, handed, handed_to}
+use Rattle.dv_laws.proofs.Calm.{ReachesNoItem}
 use Rattle.dv_laws.proofs.OnceLemmas.{fired_of, marks_of, marked_at}
 use Rattle.dv_laws.proofs.ReadBackLemmas.{Reads, ReadsBack, reads}
-use Rattle.dv_laws.proofs.ServedLines.{own, line_of, named, named_set, line_own, line_set, line_same, line_push}
+use Rattle.dv_laws.proofs.ServedLines.{line_of, named}
 use Rattle.dv_laws.proofs.ServedLines.{given_none}
-use Rattle.dv_laws.proofs.ServedLines.{without_absent, still_waiting, joined, WaitsIn, waits_in}
-use Rattle.dv_laws.proofs.ServedWaiters.{item_of, made_item, made_fresh, none_counts, ItemReached, item_reached}
-use Rattle.dv_laws.proofs.ServedWaiters.{same_queue, last_is, not_cancelled, ends_comes, fired_already, Alike}
+use Rattle.dv_laws.proofs.ServedLines.{waits_in}
+use Rattle.dv_laws.proofs.ServedWaiters.{item_of, none_counts}
+use Rattle.dv_laws.proofs.ServedWaiters.{last_is, not_cancelled, fired_already, Alike}
 use Rattle.dv_laws.proofs.ServedWaiters.{alike_same, alike_set}
-use Rattle.dv_laws.proofs.ServedWaiters.{Waiter, Waiters, IsIn, Fewer, fewer_same, fewer_push, fewer_set, waiters_on}
+use Rattle.dv_laws.proofs.ServedWaiters.{Waiters, Fewer, fewer_same, waiters_on}
 use Rattle.dv_laws.proofs.Steps.{fire_cases, telling_in}
 
 -- 1. What holds of a world: its journal leads to the line of the queue, where the run goes on.

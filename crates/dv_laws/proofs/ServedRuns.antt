@@ -1,5 +1,5 @@
 -- A queue serves those that ask in the order in which they ask: so it is in a run.
-use Rattle.std.proofs.Common.{◌≡◌, ℕ, ◌+◌, ◌-◌, ◌≤◌, ◌++◌, Bool, true, false, nat_eq, List, [], ◌∷◌, Option, None, Some}
+use Rattle.std.proofs.Common.{◌≡◌, ℕ, ◌+◌, ◌-◌, ◌≤◌, ◌++◌, Bool, true, false, List, [], ◌∷◌, Option, None, Some}
 use Rattle.std.proofs.Common.{refl, sym, ap, subst, ◌∙◌, arith, slice_get, slice_set, cond, length}
 use Rattle.std.proofs.lemmas.List.Sums.{sum_by_push}
 use Rattle.std.proofs.lemmas.Option.{none-some}
@@ -9,49 +9,45 @@ use Rattle.dv_journal.specs.Told.{change_of, Aside, Fires, Cancels}
 use Rattle.dv_journal.specs.declared.entry.Entry.{Entry}
 use Rattle.dv_journal.specs.declared.entry.Entry.TheVariants as entry
 use Rattle.dv_script.specs.declared.script.Script.{Script}
-use Rattle.dv_script.specs.declared.work.Work.{Work}
 use Rattle.dv_store.specs.Cancelling.{guard}
 use Rattle.dv_store.specs.Callbacks.{with_handed, with_result}
 use Rattle.dv_store.specs.Chaining as chaining
 use Rattle.dv_store.specs.Fire.{with_firing, with_guard}
 use Rattle.dv_store.specs.Pausing.{with_pauses}
-use Rattle.dv_store.specs.Record.{with_item, new_record, changing}
+use Rattle.dv_store.specs.Record.{with_item, changing}
 use Rattle.dv_store.specs.declared.record.Item.{Item}
 use Rattle.dv_store.specs.declared.record.Item.TheVariants as item
-use Rattle.dv_objects.specs.Objects.{Objects, naming_where}
+use Rattle.dv_objects.specs.Objects.{Objects, naming, naming_where}
 use Rattle.dv_objects.specs.Pair.{Pair}
 use Rattle.dv_objects.specs.Refusals.{cancelled}
-use Rattle.dv_objects.specs.declared.canceller.Canceller.{Canceller}
 use Rattle.dv_objects.specs.declared.follow.Follow.TheVariants as follow
 use Rattle.dv_objects.specs.declared.reached.Reached.{Reached}
 use Rattle.dv_objects.specs.declared.reached.Reached.TheVariants as reached
 use Rattle.dv_posts.specs.Batches.{Batch}
-use Rattle.dv_prims.specs.Queue.{Queue, new_queue, receiver, put_to, got_from}
-use Rattle.dv_engine.specs.Report.{Reports}
-use Rattle.dv_engine.specs.declared.report.Report.{Report}
+use Rattle.dv_prims.specs.Queue.{Queue, new_queue}
 use Rattle.dv_loop.specs.Meaning.{Means}
-use Rattle.dv_loop.proofs.Kept.{Both, Kind}
+use Rattle.dv_loop.proofs.Kept.{Kind}
 use Rattle.dv_loop.proofs.Leading.{scripts_mean_what_is_defined}
-use Rattle.dv_world.specs.World.{World, Records, state_of, with_state, with_stop, fire, fired, fire_guarded, guarded}
-use Rattle.dv_world.specs.World.{cancel, reached_from, make, pause, unpause, append, aside, arrange, submit}
-use Rattle.dv_laws.specs.Served.{made_by, queues_made, Line, Leads, Begins, IsTakenOut, ServesInOrder}
+use Rattle.dv_world.specs.World.{World, state_of, with_state, with_stop, fire, fired, fire_guarded, guarded}
+use Rattle.dv_world.specs.World.{cancel, reached_from, make, pause, unpause, append, aside, submit}
+use Rattle.dv_laws.specs.Served.{made_by, queues_made, Leads, Begins, ServesInOrder}
 use Rattle.dv_laws.specs.Served.{QueuesServeInOrder}
 use Rattle.dv_laws.specs.Stored.{Unqueued, queueing_of, puts_by, gets_by}
-use Rattle.dv_laws.proofs.At.{at, set_at}
-use Rattle.dv_laws.proofs.Beside.{Beside, Queues, QueuesRest, QueueMade, QueuePut, QueueGot}
-use Rattle.dv_laws.proofs.Calm.{Calm, LeavesQueues, ReachesNoItem, WasCancelled, IsMade, handed, handed_to}
+use Rattle.dv_laws.proofs.At.{set_at}
+use Rattle.dv_laws.proofs.Beside.{Queues, QueuesRest, QueueMade, QueuePut, QueueGot}
+use Rattle.dv_laws.proofs.Calm.{Calm, LeavesQueues, ReachesNoItem, WasCancelled, handed, handed_to}
 use Rattle.dv_laws.proofs.ReadBackLemmas.{Reads, reads}
 use Rattle.dv_laws.proofs.ServedCancels.{withdraw_served}
-use Rattle.dv_laws.proofs.ServedLemmas.{Served, Counts, plain, not_taken, served_rest, cancel_served}
+use Rattle.dv_laws.proofs.ServedLemmas.{Served, plain, not_taken, served_rest, cancel_served}
 use Rattle.dv_laws.proofs.ServedLines.{named, named_of, line_of, line_push, given_none}
 use Rattle.dv_laws.proofs.ServedSteps.{put_served, get_served}
 use Rattle.dv_laws.proofs.ServedWaiters.{Alike, alike_same, alike_join, alike_set, alike_changing, alike_push}
-use Rattle.dv_laws.proofs.ServedWaiters.{alike_unmarked, alike_guard, plain_reached, not_cancelled, Waiters, Waiter}
+use Rattle.dv_laws.proofs.ServedWaiters.{alike_unmarked, alike_guard, plain_reached, not_cancelled, Waiters}
 use Rattle.dv_laws.proofs.ServedWaiters.{Fewer, fewer_push}
 use Rattle.dv_laws.proofs.OnceLemmas.{fired_of}
 use Rattle.dv_laws.proofs.Settles.{Settles, means_keeps}
 use Rattle.dv_laws.proofs.Stays.{live, append_stays, make_stays, fire_stays, fire_guarded_stays, cancel_stays}
-use Rattle.dv_laws.proofs.Stays.{pause_stays, unpause_stays, aside_stays, arrange_stays, submit_stays}
+use Rattle.dv_laws.proofs.Stays.{pause_stays, unpause_stays, aside_stays, submit_stays}
 use Rattle.dv_laws.proofs.Steps.{telling_in, append_cases, pause_cases, make_cases, aside_cases, arrange_cases}
 use Rattle.dv_laws.proofs.Steps.{submit_cases, cancel_cases, unpause_cases, fire_cases, unless, unless_and}
 use Rattle.dv_laws.proofs.Steps.{put_into_cases, get_from_cases}
@@ -225,12 +221,12 @@ module _ (name : List ℕ) where
           (λ s. pause_cases w (Goes name w) (stays name w) (stops name w) d
           (λ r x g. rests name (entry.Pause d) w _ s refl refl refl (λ of q. absurd cc) (λ n q. absurd cc)
           (reads.pauses d r (state_of w) x g) (alike_set d r (with_pauses (r.pauses + 1) r) w.records g refl refl)));
-      by_aside = λ e change w a l c t b.
+      by_aside = λ e change w a l c t b n.
           live (Goes name w) w (aside e change w) (stays name w) (aside_stays e change w)
           (λ s. aside_cases w (Goes name w) (stays name w) (stops name w) e change
           (λ x.
           aside_by name e w _ s refl a (reads.asides e (state_of w) a x) (alike_same w.records) _ refl b.queues l));
-      by_arrange = λ change w q s l t.
+      by_arrange = λ change w q s l t n.
           arrange_cases w (Goes name w) (stays name w) (stops name w) change (arranged name change w q);
       by_submit = λ d pool work w.
           live (Goes name w) w (submit d pool work w) (stays name w) (submit_stays d pool work w)
@@ -246,6 +242,12 @@ module _ (name : List ℕ) where
         get_from_cases w (λ o u. Goes name w (handed_to d o u)) (stays name w) (stops name w) key d
         (λ q s x g. record { goes_on = get_served name key d q w s x g (i s) });
     by_withdraw = λ of d key w e. record { goes_on = withdraw_served name of d key w e };
+    by_name = λ d given w.
+        let e = entry.Name d (Some given) in
+        live (Goes name w) w (aside e (naming given d) w) (stays name w) (aside_stays e (naming given d) w)
+        (λ s. aside_cases w (Goes name w) (stays name w) (stops name w) e (naming given d)
+        (λ x. rests name e w _ s refl refl refl (λ of q. absurd cc) (λ n q. absurd cc)
+        (reads.asides e (state_of w) refl x) (alike_same w.records)));
     by_append = λ d pair w.
         live (Goes name w) w (append d pair w) (stays name w) (append_stays d pair w)
         (λ s. append_cases w (Goes name w) (stays name w) (stops name w) d pair

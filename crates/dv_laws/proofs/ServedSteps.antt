@@ -1,48 +1,36 @@
 -- A queue serves those that ask in the order in which they ask: what its own steps leave, with the firings after them.
-use Rattle.std.proofs.Common.{◌≡◌, ◌⊎◌, inl, inr, ⊎_elim, ℕ, zero, suc, ◌+◌, ◌≤◌, ◌++◌, Bool, true, false, nat_eq, List}
-use Rattle.std.proofs.Common.{[], ◌∷◌, Option, None, Some, Ok, Err, refl, sym, ap, subst, ◌∙◌, arith, slice_get}
+use Rattle.std.proofs.Common.{◌≡◌, ◌⊎◌, inl, inr, ⊎_elim, ℕ, ◌≤◌, ◌++◌, Bool, true, false, nat_eq, List}
+use Rattle.std.proofs.Common.{[], ◌∷◌, None, Some, refl, sym, ap, subst, ◌∙◌, arith, slice_get}
 use Rattle.std.proofs.Common.{slice_set}
 use Rattle.std.proofs.Common.{cond}
 use Rattle.std.specs.Prelude.{◌||◌, bytes_eq}
 use Rattle.std.specs.List.{list_any}
 use Rattle.std.proofs.lemmas.Bool.{eqb-true}
-use Rattle.std.proofs.lemmas.List.Sums.{sum_by_push}
 use Rattle.std.proofs.lemmas.Slice.Eq.{bytes_eq-Decides}
 use Rattle.dv_value.specs.declared.value.Value.{Value}
 use Rattle.dv_journal.specs.Journal.{fits, with_entry}
 use Rattle.dv_journal.specs.declared.entry.Entry.{Entry}
 use Rattle.dv_journal.specs.declared.entry.Entry.TheVariants as entry
-use Rattle.dv_journal.specs.declared.error.Fault.TheVariants as fault
-use Rattle.dv_store.specs.Fire as firing
-use Rattle.dv_store.specs.Fire.{with_firing}
-use Rattle.dv_store.specs.declared.store.Fired.TheVariants.{Set}
-use Rattle.dv_objects.specs.Objects.{Objects, with_queue, queue_changed}
-use Rattle.dv_objects.specs.Pair.{Pair}
+use Rattle.dv_objects.specs.Objects.{with_queue}
 use Rattle.dv_objects.specs.Refusals.{cancelled}
-use Rattle.dv_objects.specs.declared.canceller.Canceller.{Canceller}
-use Rattle.dv_objects.specs.declared.reached.Reached.{Reached}
-use Rattle.dv_objects.specs.declared.reached.Reached.TheVariants as reached
-use Rattle.dv_prims.specs.Queue.{Queue, receiver, put_to, got_from, withdrawn}
-use Rattle.dv_prims.specs.Tokens.{is_waiting, without}
-use Rattle.dv_loop.proofs.Kept.{Kind}
-use Rattle.dv_world.specs.World.{World, Records, state_of, with_stop, fire, fired, cancel, withdraw, arrange}
-use Rattle.dv_world.specs.World.{reached_from}
-use Rattle.dv_laws.specs.Served.{made_by, queues_made, Line, line, IsCancelled, IsTakenOut, Next, Gives, Stores, Takes}
-use Rattle.dv_laws.specs.Served.{Waits, Leaves, Leads, Goes}
-use Rattle.dv_laws.specs.Stored.{queueing_of, puts_by, gets_by}
+use Rattle.dv_prims.specs.Queue.{Queue, receiver, put_to, got_from}
+use Rattle.dv_prims.specs.Tokens.{is_waiting}
+use Rattle.dv_world.specs.World.{World, Records, state_of}
+use Rattle.dv_laws.specs.Served.{made_by, Line, line, IsCancelled, Next, Gives, Stores, Takes}
+use Rattle.dv_laws.specs.Served.{Waits, Goes}
+use Rattle.dv_laws.specs.Stored.{queueing_of}
 use Rattle.dv_laws.proofs.At.{at}
 use Rattle.dv_laws.proofs.Calm.{IsMade, handed, handed_to}
-use Rattle.dv_laws.proofs.OnceLemmas.{fired_of, marked_at}
-use Rattle.dv_laws.proofs.ReadBackLemmas.{Reads, ReadsBack, reads, get_set}
-use Rattle.dv_laws.proofs.ServedLemmas.{Served, Counts, Shown, Pending, served_next, made_on, made_before, rests_next}
-use Rattle.dv_laws.proofs.ServedLemmas.{fire_goes, pending_fired}
+use Rattle.dv_laws.proofs.OnceLemmas.{marked_at}
+use Rattle.dv_laws.proofs.ReadBackLemmas.{Reads, reads, get_set}
+use Rattle.dv_laws.proofs.ServedLemmas.{Served, Counts, Pending, served_next, made_on, made_before, rests_next}
+use Rattle.dv_laws.proofs.ServedLemmas.{pending_fired}
 use Rattle.dv_laws.proofs.ServedLines.{own, line_of, named, named_set, line_own, line_set, line_same, given_none}
-use Rattle.dv_laws.proofs.ServedLines.{without_absent, still_waiting, joined, waits_in}
-use Rattle.dv_laws.proofs.ServedWaiters.{item_of, made_item, made_fresh, ItemReached, item_reached, same_queue}
-use Rattle.dv_laws.proofs.ServedWaiters.{not_cancelled, ends_comes, Alike, alike_same, alike_set, Waiter, Waiters, IsIn}
-use Rattle.dv_laws.proofs.ServedWaiters.{Fewer, fewer_same, fewer_set, waiters_on}
+use Rattle.dv_laws.proofs.ServedLines.{joined}
+use Rattle.dv_laws.proofs.ServedWaiters.{item_of, made_item, made_fresh}
+use Rattle.dv_laws.proofs.ServedWaiters.{not_cancelled, alike_same, Waiter, Waiters}
+use Rattle.dv_laws.proofs.ServedWaiters.{fewer_same, fewer_set, waiters_on}
 use Rattle.dv_laws.proofs.Settles.{is_itself}
-use Rattle.dv_laws.proofs.Steps.{telling_in}
 
 -- 1. A queue changes, by whether it has the name.
 

@@ -1,7 +1,7 @@
 -- What each change with its entry keeps, a whole run keeps: only a ready Deferred uses an item, and only one of which a
 -- side runs gets what a side gave.
-use Rattle.std.proofs.Common.{◌≡◌, ℕ, ◌+◌, ◌-◌, Bool, true, false, nat_eq, List, [], ◌∷◌, ◌++◌, Option, None, Some}
-use Rattle.std.proofs.Common.{length, refl, slice_get, slice_set, cond}
+use Rattle.std.proofs.Common.{◌≡◌, ℕ, ◌+◌, Bool, true, false, nat_eq, List, [], ◌∷◌, ◌++◌, Option, None, Some}
+use Rattle.std.proofs.Common.{refl, slice_get, slice_set, cond}
 use Rattle.dv_value.specs.Failure.{is_fault}
 use Rattle.dv_value.specs.declared.value.Value.{Value, Null}
 use Rattle.dv_journal.specs.Journal.{fits, with_entry}
@@ -9,31 +9,20 @@ use Rattle.dv_journal.specs.declared.entry.Entry.{Entry}
 use Rattle.dv_journal.specs.declared.entry.Entry.TheVariants as entry
 use Rattle.dv_store.specs.Callbacks as callbacks
 use Rattle.dv_store.specs.Callbacks.{with_handed, with_result}
-use Rattle.dv_store.specs.Cancelling.{guard}
 use Rattle.dv_store.specs.Chaining as chaining
 use Rattle.dv_store.specs.Fire as firing
-use Rattle.dv_store.specs.Pausing.{with_pauses}
 use Rattle.dv_store.specs.Record.{with_item, new_record, changing}
 use Rattle.dv_store.specs.declared.record.Item.{Item}
 use Rattle.dv_store.specs.declared.record.Item.TheVariants as item
 use Rattle.dv_store.specs.declared.store.Step.{Step}
 use Rattle.dv_store.specs.declared.store.Step.TheVariants.{Nothing, Passed, Run, Handed}
 use Rattle.dv_loop.proofs.Kept.{Kind}
-use Rattle.dv_laws.proofs.Clocks.{Clocks, Arranges}
-use Rattle.dv_laws.proofs.Calm.{Regular, WasCancelled, Calm}
-use Rattle.dv_laws.proofs.Beside.{Beside, Arranged}
-use Rattle.dv_script.specs.declared.work.Work.{Work}
-use Rattle.dv_journal.specs.Told.{change_of, Aside}
-use Rattle.dv_objects.specs.declared.canceller.Canceller.{Canceller}
-use Rattle.dv_objects.specs.Objects.{Objects}
-use Rattle.dv_world.specs.World.{World, fired, step, put, put_deferred, fire, fire_guarded, guarded, with_state}
-use Rattle.dv_world.specs.World.{with_stop}
-use Rattle.dv_objects.specs.Refusals.{cancelled}
-use Rattle.dv_objects.specs.declared.follow.Follow.TheVariants as follow
+use Rattle.dv_laws.proofs.Calm.{Calm}
+use Rattle.dv_world.specs.World.{World, step, put, put_deferred, with_state}
 use Rattle.dv_objects.specs.Pair.{Pair}
 use Rattle.std.specs.Prelude.{min}
 use Rattle.dv_clock.specs.declared.limits.TheConstants.{MOST_TICKS}
-use Rattle.dv_objects.specs.Objects.{naming_where, with_time}
+use Rattle.dv_objects.specs.Objects.{with_time}
 use Rattle.std.proofs.lemmas.Bool.{eqb-true}
 use Rattle.std.proofs.lemmas.Bool.Decides.{nat_tests}
 use Rattle.std.proofs.Common.{zero, suc, ◌≤◌, sum_by, sym, subst, ap, ◌∙◌, arith}
@@ -64,14 +53,13 @@ use Rattle.dv_engine.specs.declared.report.Report.{Report}
 use Rattle.dv_journal.specs.Journal.{Written}
 use Rattle.dv_world.specs.World.{first_world, value_of}
 use Rattle.dv_laws.proofs.At.{counted_of, at, first_at, set_at, changing_at, push_at, set_by, changing_by}
-use Rattle.dv_laws.proofs.Clocks.{Clocks, Arranges}
-use Rattle.dv_laws.proofs.Calm.{Regular, Mild, PutsNothing, AllPutNothing, side_mild, turned_mild, action_mild}
-use Rattle.dv_laws.proofs.Calm.{drain_mild, post_comes}
+use Rattle.dv_laws.proofs.Mild.{Mild, PutsNothing, AllPutNothing, side_mild, turned_mild, action_mild}
+use Rattle.dv_laws.proofs.Mild.{drain_mild, post_comes}
 use Rattle.dv_laws.proofs.Stays.{live, step_stays, put_stays, put_deferred_stays, aside_stays}
 use Rattle.dv_laws.proofs.Still.{Still, calm}
-use Rattle.dv_laws.proofs.Steps.{telling_in, put_cases, put_deferred_cases, append_cases, pause_cases, make_cases}
-use Rattle.dv_laws.proofs.Steps.{aside_cases, arrange_cases, submit_cases, cancel_cases, unpause_cases, fire_cases}
-use Rattle.dv_laws.proofs.Steps.{step_cases, unless, unless_and}
+use Rattle.dv_laws.proofs.Steps.{telling_in, put_cases, put_deferred_cases}
+use Rattle.dv_laws.proofs.Steps.{aside_cases}
+use Rattle.dv_laws.proofs.Steps.{step_cases}
 
 -- a relation that holds of each change of a world with its entry, those by which a Deferred is settled and time goes on
 -- among them
@@ -147,10 +135,10 @@ pub not_running : (r : Kind) → callbacks.is_ready r ≡ true → running_of r 
 not_running r h = ap (λ b. cond b 1 0) (ready_idle r h)
 
 -- the sides that run are the same
-record SameRunning (w u : World) : Type 0 where
-  same : (n : ℕ) → running_at n u ≡ running_at n w
+pub record SameRunning (w u : World) : Type 0 where
+  pub same : (n : ℕ) → running_at n u ≡ running_at n w
 
-same_running : Still SameRunning
+pub same_running : Still SameRunning
 same_running = record {
   stays = λ w. record { same = λ n. refl };
   joins = λ u v w p q. record { same = λ n. q.same n ∙ p.same n };
@@ -173,13 +161,13 @@ same_running = record {
 }
 
 -- what a step begins to run, and what a put ends
-abbrev placing : ℕ → ℕ → Step Pair → ℕ
+abbrev pub placing : ℕ → ℕ → Step Pair → ℕ
 placing n d Nothing = 0
 placing n d Passed = 0
 placing n d (Run pair) = cond (nat_eq d n) 1 0
 placing n d (Handed c) = 0
 
-step_runs : (n d : ℕ) (w : World) → running_at n (step d w).1 ≡ running_at n w + placing n d (step d w).0
+pub step_runs : (n d : ℕ) (w : World) → running_at n (step d w).1 ≡ running_at n w + placing n d (step d w).0
 step_runs n d w =
     step_cases w (λ move u. running_at n u ≡ running_at n w + placing n d move) (omega arith) (omega arith) d
     (λ r pair rest g e a. omega (arith, set_at running_of n d r (record r { items = rest }) w.records g refl))
@@ -229,7 +217,7 @@ place_ends n d (Raised failure) w = put_ends n d (Fault failure) w
 place_ends n d (Awaits e) w = put_deferred_ends n d e w
 
 -- for how many frames a side of n is to be put in place
-abbrev place_of : ℕ → Frame → ℕ
+abbrev pub place_of : ℕ → Frame → ℕ
 place_of n (frame.Settle d) = 0
 place_of n (frame.Place d) = cond (nat_eq d n) 1 0
 place_of n (frame.Rest rest) = 0
@@ -245,7 +233,7 @@ place_of n frame.Tell = 0
 place_of n frame.Due = 0
 place_of n (frame.Inline inlining) = 0
 
-abbrev places : ℕ → List Frame → ℕ
+abbrev pub places : ℕ → List Frame → ℕ
 places n fs = sum_by (place_of n) fs
 
 free_place : (n : ℕ) (f : Frame) → PutsNothing f → place_of n f ≡ 0
@@ -264,7 +252,7 @@ free_place n frame.Tell h = refl
 free_place n frame.Due h = refl
 free_place n (frame.Inline inlining) h = refl
 
-free_places : (n : ℕ) (fs : List Frame) → AllPutNothing fs → places n fs ≡ 0
+pub free_places : (n : ℕ) (fs : List Frame) → AllPutNothing fs → places n fs ≡ 0
 free_places n [] h = refl
 free_places n (f ∷ fs) h = omega (arith, sum_by-cons (place_of n) f fs, free_place n f h.0, free_places n fs h.1)
 

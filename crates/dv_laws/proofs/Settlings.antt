@@ -56,10 +56,12 @@ use Rattle.dv_world.specs.World as world
 use Rattle.dv_world.specs.World.{World, Records, state_of, with_state, with_stop, append, fire, fired, fire_guarded}
 use Rattle.dv_world.specs.World.{guarded, unpause, unpaused, step, put, put_deferred, first_world, value_of}
 use Rattle.dv_laws.proofs.At.{counted_of, at, set_at, changing_at, push_at, set_by, changing_by}
-use Rattle.dv_laws.proofs.Calm.{Quiet, Calmly, IsCalm, settled_by, SettlesFirst, CallsToSettle, Follows, Mildly, IsMild}
-use Rattle.dv_laws.proofs.Calm.{AsksCalmly, reached_by, step_quiet, question_quiet, rule_mild, side_rule_mild}
-use Rattle.dv_laws.proofs.Calm.{carry_mild}
-use Rattle.dv_laws.proofs.Calm.{side_mild, turned_mild, action_mild, drain_mild, post_comes}
+use Rattle.dv_laws.proofs.Calm.{Quiet, Calmly, IsCalm}
+use Rattle.dv_laws.proofs.Mild.{settled_by, SettlesFirst, CallsToSettle, Follows, Mildly, IsMild}
+use Rattle.dv_laws.proofs.Calm.{reached_by, step_quiet, question_quiet}
+use Rattle.dv_laws.proofs.Mild.{AsksCalmly, rule_mild, side_rule_mild}
+use Rattle.dv_laws.proofs.Mild.{carry_mild}
+use Rattle.dv_laws.proofs.Mild.{side_mild, turned_mild, action_mild, drain_mild, post_comes}
 use Rattle.dv_laws.proofs.Still.{Still, calm}
 use Rattle.dv_laws.proofs.Settles.{place_runs}
 use Rattle.dv_objects.specs.Objects.{with_time}
@@ -153,10 +155,10 @@ quiet_less = record {
         ));
       });
   by_aside =
-      λ e change w a q c l t.
+      λ e change w a q c l t n.
       aside_cases w (Less w) (less_same w) (less_stop w) e change (λ x. record { each = λ n. omega arith });
   by_arrange =
-      λ change w q s l t.
+      λ change w q s l t n.
       arrange_cases w (Less w) (less_same w) (less_stop w) change (record { each = λ n. omega arith });
   by_submit =
       λ d pool work w.
@@ -287,7 +289,13 @@ settled_pays d rule w u h m p =
 quiet_pays : (w u : World) (t : Turned) → Less w u → Paid u t → Paid w t
 quiet_pays w u t l p = record { each = λ n. omega (arith, l.each n, p.each n) }
 
--- who waits no longer for a value owes nothing more, nor does anybody where a question is asked
+-- who gets a name, or waits no longer for a value, owes nothing more, nor does anybody where a question is asked
+name_less : (d : ℕ) (name : List ℕ) (w : World) → Less w (stepped (steps.Name d name) w)
+name_less d name w =
+    aside_cases w (Less w) (less_same w) (less_stop w) (entry.Name d (Some name)) _ (λ x. record {
+      each = λ n. omega arith;
+    })
+
 withdrawn_less : (k d : ℕ) (w : World) → Less w (world.withdraw k d w)
 withdrawn_less k d w = arrange_cases w (Less w) (less_same w) (less_stop w) _ (record { each = λ n. omega arith })
 
@@ -307,6 +315,8 @@ step_pays : (step : steps.Step) (o : Option Reached) (rule : Rule) (w : World) �
 step_pays (steps.Put d v) o rule w c f p = absurd c
 step_pays (steps.PutDeferred d e) o rule w c f p = absurd c
 step_pays (steps.Advance ticks) o rule w c f p = absurd c
+step_pays (steps.Name d name) o rule w c f p =
+    quiet_pays w (stepped (steps.Name d name) w) (run_rule rule (stepped (steps.Name d name) w)) (name_less d name w) p
 step_pays (steps.Append d pair) o rule w c f p =
     settled_pays d rule w (append d pair w) (λ n. append_more n d pair w) f p
 step_pays (steps.FireGuarded d) o rule w c f p = settled_pays d rule w (fire_guarded d w) (λ n. guarded_more n d w) f p

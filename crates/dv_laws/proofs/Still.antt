@@ -1,5 +1,5 @@
 -- What holds of each change of a world with its entry, holds of the steps of all rules but settling.
-use Rattle.std.specs.Prelude.{◌≡◌, ℕ, ◌+◌, ◌-◌, Bool, true, false, nat_eq, List, [], ◌∷◌, ◌++◌, Option, None, Some}
+use Rattle.std.specs.Prelude.{◌≡◌, ℕ, ◌+◌, ◌-◌, true, false, nat_eq, List, [], ◌∷◌, ◌++◌, Option, None, Some}
 use Rattle.std.specs.Prelude.{length, slice_get, slice_set}
 use Rattle.std.proofs.Common.{refl}
 use Rattle.dv_value.specs.declared.value.Value.{Value}
@@ -12,7 +12,7 @@ use Rattle.dv_store.specs.Fire as firing
 use Rattle.dv_store.specs.Pausing.{with_pauses}
 use Rattle.dv_store.specs.Record.{with_item, new_record}
 use Rattle.dv_store.specs.declared.record.Item.TheVariants as item
-use Rattle.dv_objects.specs.Objects.{Objects, naming_where, with_queue, queue_changed}
+use Rattle.dv_objects.specs.Objects.{Objects, naming, naming_where, with_queue, queue_changed}
 use Rattle.dv_objects.specs.Pair.{Pair}
 use Rattle.dv_objects.specs.Refusals.{cancelled}
 use Rattle.dv_objects.specs.declared.canceller.Canceller.{Canceller}
@@ -21,7 +21,8 @@ use Rattle.dv_prims.specs.Queue.{Queue, may_put, put_to, got_from, receiver, wit
 use Rattle.dv_script.specs.declared.work.Work.{Work}
 use Rattle.dv_loop.proofs.Kept.{Kind}
 use Rattle.dv_world.specs.World.{World, fired, fire, fire_guarded, guarded, cancel, withdraw, with_stop}
-use Rattle.dv_laws.proofs.Beside.{Beside, Arranged, arranging, SameLocks, SameLoops, QueuePut, QueueGot, QueueForgets}
+use Rattle.dv_laws.proofs.Beside.{Beside, Arranged, resting, arranging, SameLocks, SameLoops, QueuePut, QueueGot}
+use Rattle.dv_laws.proofs.Beside.{QueueForgets}
 use Rattle.dv_laws.proofs.Calm.{Regular, WasCancelled, Calm, handed, handed_to, queue_beside}
 use Rattle.dv_laws.proofs.Clocks.{Clocks, Leaves, Arranges, Stays}
 use Rattle.dv_laws.proofs.Steps.{telling_in, append_cases, pause_cases, make_cases, aside_cases, arrange_cases}
@@ -168,9 +169,10 @@ module _ (R : World → World → Type 0) (k : Still R) where
       by_cancel = λ d w m. after_cancel d w;
       by_pause = λ d w. pause_cases w (R w) (k.stays w) (k.stops w) d (λ r x g. k.pauses d r w x g);
       by_aside =
-          λ e change w a q c l t.
+          λ e change w a q c l t n.
           aside_cases w (R w) (k.stays w) (k.stops w) e change (λ x. k.asides e change w a c l t x);
-      by_arrange = λ change w q s l t. arrange_cases w (R w) (k.stays w) (k.stops w) change (k.arranges change w s l t);
+      by_arrange =
+          λ change w q s l t n. arrange_cases w (R w) (k.stays w) (k.stops w) change (k.arranges change w s l t);
       by_submit =
           λ d pool work w. submit_cases w (R w) (k.stays w) (k.stops w) d pool work (λ x. k.submits d pool work w x);
     };
@@ -185,6 +187,11 @@ module _ (R : World → World → Type 0) (k : Still R) where
         λ of d key w e. k.joins w (cancel of w).1 _ (after_cancel of w)
         (k.joins (cancel of w).1 (withdraw key d (cancel of w).1) _ (after_withdrawal key d (cancel of w).1)
         (after_fire d cancelled (withdraw key d (cancel of w).1)));
+    by_name =
+        λ d name w.
+        let e = entry.Name d (Some name) in
+        aside_cases w (R w) (k.stays w) (k.stops w) e (naming name d) (k.asides e (naming name d) w refl
+        (λ c. Leaves (refl, refl, refl)) (λ l. l) (resting _ _ _ refl refl refl refl refl refl refl refl refl));
     by_append = λ d pair w. append_cases w (R w) (k.stays w) (k.stops w) d pair (λ r x g. k.adds d pair r w x g);
     by_fire = after_fire;
     by_fire_guarded = after_guarded;

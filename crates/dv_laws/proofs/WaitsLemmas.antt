@@ -32,22 +32,22 @@ use Rattle.dv_laws.proofs.Settles.{Settles, running_of, ready_fired, ready_free,
 use Rattle.dv_laws.proofs.Settles.{reported}
 
 -- whether a Deferred waits for m, and whether it waits
-abbrev awaits_by : ℕ → Option ℕ → ℕ
+abbrev pub awaits_by : ℕ → Option ℕ → ℕ
 awaits_by m None = 0
 awaits_by m (Some e) = cond (nat_eq e m) 1 0
 
-abbrev awaits_of : ℕ → Kind → ℕ
+abbrev pub awaits_of : ℕ → Kind → ℕ
 awaits_of m r = awaits_by m r.waits_for
 
 abbrev any_of : Kind → ℕ
 any_of r = cond (is_some r.waits_for) 1 0
 
 -- how often it is to hand its value over to n
-abbrev handover_of : ℕ → Item Pair → ℕ
+abbrev pub handover_of : ℕ → Item Pair → ℕ
 handover_of n (item.Pair pair) = 0
 handover_of n (item.HandOver c) = cond (nat_eq c n) 1 0
 
-abbrev handovers_of : ℕ → Kind → ℕ
+abbrev pub handovers_of : ℕ → Kind → ℕ
 handovers_of n r = sum_by (handover_of n) r.items
 
 -- it is 0 where only a fired Deferred runs a side or waits, and none does both
@@ -58,9 +58,9 @@ abbrev odd_of : Kind → ℕ
 odd_of r = running_of r + any_of r - fired_of r
 
 -- what the records hold of n is what was logged
-record Waited (n : ℕ) (s : Both) : Type 0 where
+pub record Waited (n : ℕ) (s : Both) : Type 0 where
   even : at odd_of n s.0 ≡ 0
-  items : (m : ℕ) → at (handovers_of n) m s.0 ≡ at (awaits_of m) n s.0
+  pub items : (m : ℕ) → at (handovers_of n) m s.0 ≡ at (awaits_of m) n s.0
   told : (m : ℕ) → waits n m s.1.entries ≡ hand_overs n m s.1.entries + at (awaits_of m) n s.0
   still : (m : ℕ) → StillWaits n m s.1.entries → at (awaits_of m) n s.0 ≡ 1
   law : (m : ℕ) → WaitsForItsValue n m s.1.entries
@@ -573,10 +573,10 @@ nowhere n m Q w = nowhere_in (entry.Wait n m) w.before w.since Q w.waited
     nowhere_in e [] since Q q = absurd cc
     nowhere_in e (b ∷ bs) since Q q = absurd cc
 
-world_waits : (n m : ℕ) (script : Script) (batches : List Batch) (w : World) → Means script batches w
-    → WaitsForItsValue n m w.journal.entries
-world_waits n m script batches w z =
-    ((means_keeps (λ w u. Goes n (state_of w) (state_of u)) (settles n) script batches w z).goes_on (record {
+pub world_waited : (n : ℕ) (script : Script) (batches : List Batch) (w : World) → Means script batches w
+    → Waited n (state_of w)
+world_waited n script batches w z =
+    (means_keeps (λ w u. Goes n (state_of w) (state_of u)) (settles n) script batches w z).goes_on (record {
       even = refl;
       items = λ m. refl;
       told = λ m. refl;
@@ -585,7 +585,11 @@ world_waits n m script batches w z =
         until = no_entries (λ told x. StillWaits n m told → touching n x ≡ 1 → HandsOver m n x);
         once = no_places (λ told. hand_overs n m told ≤ waits n m told) (omega arith);
       };
-    })).law m
+    })
+
+world_waits : (n m : ℕ) (script : Script) (batches : List Batch) (w : World) → Means script batches w
+    → WaitsForItsValue n m w.journal.entries
+world_waits n m script batches w z = (world_waited n script batches w z).law m
 
 -- and so its report logs it
 pub waits_end : WaitsEndByAHandOver

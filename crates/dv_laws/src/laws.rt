@@ -9,7 +9,8 @@ ghost use Rattle.dv_laws.specs.Once.{EachDeferredIsFiredOnce};
 ghost use Rattle.dv_laws.specs.ReadBack.{OutcomesAreToldByTheJournal};
 ghost use Rattle.dv_laws.specs.Ready.{NothingRunsEarly};
 ghost use Rattle.dv_laws.specs.Served.{QueuesServeInOrder};
-ghost use Rattle.dv_laws.specs.Settled.{AllThatMayRunHasRun, NobodyIsLeftWaiting};
+ghost use Rattle.dv_laws.specs.Settled.{AllThatMayRunHasRun, EachSideEnds};
+ghost use Rattle.dv_laws.specs.Settled.{NobodyIsLeftWaiting, WaitersHang};
 ghost use Rattle.dv_laws.specs.Stored.{NothingIsStoredWhileAnyWaits, QueuesKeepTheirSize};
 ghost use Rattle.dv_laws.specs.Swallowed.{OnlyACancelHasOneSwallowed};
 ghost use Rattle.dv_laws.specs.Tasks.{TasksEndOnce};
@@ -63,11 +64,15 @@ pub fn time_goes_on()
     ensures order { CallsRunInOrder }
 {}
 
-/// At the end of a run that hasn't stopped, a Deferred that is fired, isn't paused, waits for no
-/// other, and no side of which is being run, has used all its pairs, and nobody waits for it.
+/// At the end of a run that hasn't stopped no side of a Deferred is being run: each that was run
+/// has ended. A Deferred that is fired, isn't paused, and waits for no other has used all its
+/// pairs, and nobody waits for it. Whoever waits hangs at the end of its chain at one that is
+/// unfired or paused, or the chain goes round in a circle.
 pub fn all_that_may_run_has_run()
+    ensures ended { EachSideEnds }
     ensures used { AllThatMayRunHasRun }
     ensures waiters { NobodyIsLeftWaiting }
+    ensures hanging { WaitersHang }
 {}
 
 /// In a run each task of the Cooperator ends once at most, and takes no step after it has ended.
