@@ -8,7 +8,7 @@ input. `--journal FILE` shows a journal with its outcomes, as `./deferreds`, `./
 it, and runs nothing; `--json FILE` shows what `./deferreds --json` has told. `--compare A B` shows two runs beside
 each other. `--batches BATCHES` runs a script with its posts in that order. `--orders` performs it in every order, and writes
 a page, `NAME.orders.html`, of what becomes of each Deferred in how many of them; `--orders --sample K --seed S` performs it in K
-orders, which S draws. FILE may be `-`, for standard input.
+orders, which S draws, and writes `NAME.sample.html`. FILE may be `-`, for standard input.
 
 Status 0: shown; 2: the script is refused, with what `./deferreds --why` says of it on standard error; 3, 4, 5, 7, 70: as for `./deferreds`, 4 also
 where standard output can't be written; 64: the words are wrong; 66: what is to be shown can't be read, or isn't what
@@ -21,30 +21,28 @@ import argparse
 import gc
 import os
 import sys
-import webbrowser
 from functools import partial
 from itertools import chain
 from pathlib import Path
-from typing import IO, Callable, Iterator, List, NoReturn, Optional, Set
+from typing import IO, TYPE_CHECKING, Callable, Iterator, List, NoReturn, Optional, Set
 
 from ..checkout import as_called, command_name
 from ..ending import ended, open_streams, say, writing
 from ..sampling import MOST_SEED
 from ..survey import MOST_ORDERS, ORDERS
 from .batches import NotBatches, parse_batches
-from .branches import found
-from .compared import Compared
-from .compared_forms import ComparedPage, text_lines
+from .document import MOST_PLAIN, drawn
+from .glances import glance
 from .inputs import NO_INPUT, NO_OUTPUT, STANDARD, USAGE, Failed, InOrders, Inputs, read_any
-from .orders_page import OrdersPage
-from .page import MOST_ROWS, Page
-from .run import Run
-from .terminal import Terminal
+from .sizes import AT_A_TIME, MOST_WRITTEN, parts_of
 from .texts import clipped, visible
-from .trace import SUFFIX, Trace
 
+# (what reads a run is imported where it is used: most of the time of a page that draws itself would go to that)
+if TYPE_CHECKING:
+    from .run import Run
 
-_ORDERS_SUFFIX = ".orders.html"
+#: what ends the names of traces, and of pages of every order or of a sample of them
+_TRACE_SUFFIX, _ORDERS_SUFFIX, _SAMPLE_SUFFIX = ".trace.json", ".orders.html", ".sample.html"
 
 
 class _Parser(argparse.ArgumentParser):
@@ -85,7 +83,7 @@ def _arguments(words: List[str]) -> argparse.Namespace:
     form.add_argument(
         "--trace",
         action="store_true",
-        help=f"write SCRIPT's name with `{SUFFIX}`: a trace of Chrome's, which Perfetto opens, in the place of the page",
+        help=f"write SCRIPT's name with `{_TRACE_SUFFIX}`: a trace of Chrome's, which Perfetto opens, in the place of the page",
     )
     source = parser.add_mutually_exclusive_group()
     source.add_argument(
@@ -233,11 +231,18 @@ def _targets(arguments: argparse.Namespace, inputs: List[Inputs]) -> Iterator[st
             yield output
             continue
         stem = "script" if one.main == STANDARD else Path(one.main).stem
-        ending = SUFFIX if arguments.trace else _ORDERS_SUFFIX if arguments.orders else ".html"
+        ending = _ending(arguments)
         names = (f"{stem}{f'_{number}' if number > 1 else ''}{ending}" for number in range(1, len(inputs) + 1))
         name = next(name for name in names if name not in taken)
         taken.add(name)
         yield os.fspath(Path(output or "", name))
+
+
+def _ending(arguments: argparse.Namespace) -> str:
+    """What the name of a page or a trace ends with, in the place of that of its script."""
+    if arguments.orders:
+        return _SAMPLE_SUFFIX if arguments.sample is not None else _ORDERS_SUFFIX
+    return _TRACE_SUFFIX if arguments.trace else ".html"
 
 
 def _check_target(target: str, inputs: List[Inputs]) -> None:
@@ -273,6 +278,9 @@ def _write(text: str, target: str) -> None:
 
 
 def _print_text(run: Run, asked: Optional[str]) -> None:
+    from .branches import found
+    from .terminal import Terminal
+
     color = sys.stdout.isatty() and not os.environ.get("NO_COLOR") and os.environ.get("TERM") != "dumb"
     terminal = Terminal(run, color)
     numbers = found(run, asked) if asked is not None else []
@@ -283,19 +291,31 @@ def _print_text(run: Run, asked: Optional[str]) -> None:
             print(line)
 
 
-def _show_page(run: Run, arguments: argparse.Namespace, target: str) -> None:
-    page = Page(run, arguments.first, arguments.last)
-    _write(page.html(), target)
+def _show_page(one: Inputs, arguments: argparse.Namespace, target: str) -> None:
+    told, asked = one.told(), (arguments.first, arguments.last)
+    seen = glance(told.data, MOST_PLAIN) if not told.source.is_journal else None
+    if seen is not None and seen.lines > MOST_WRITTEN:
+        lines, counts = seen.lines, seen.counts(told.source)
+        _write(drawn(told.source, told.data, *asked, seen.first, lines), target)
+    else:
+        from .pages import page_of
+
+        run = told.run()
+        lines, counts = len(run.fold.rows), run.counts
+        _write(page_of(told.source, told.text, run, *asked), target)
+    window, there = parts_of(lines, *asked)
     part = ""
-    if len(page.window) < len(page.there):
-        part = f", {MOST_ROWS} at a time" + (f", up to line {page.there.stop}" if page.there.stop < len(run.fold.rows) else "")
-    elif len(page.window) < len(run.fold.rows):
-        part = f", of which the chart shows {page.window.start + 1} to {page.window.stop}"
-    _say_written(target, run, part)
+    if len(window) < len(there):
+        part = f", {AT_A_TIME} at a time" + (f", up to line {there.stop}" if there.stop < lines else "")
+    elif len(window) < lines:
+        part = f", of which the chart shows {window.start + 1} to {window.stop}"
+    _say_written(target, counts, part)
     _open(arguments, target)
 
 
 def _show_orders(script: InOrders, arguments: argparse.Namespace, target: str) -> None:
+    from .orders_page import OrdersPage
+
     page = OrdersPage(script.title, script.orders, script.run)
     _write(page.html(), target)
     _say(f"{_shown_target(target)}: {page.counts}")
@@ -303,13 +323,15 @@ def _show_orders(script: InOrders, arguments: argparse.Namespace, target: str) -
 
 
 def _write_trace(run: Run, target: str) -> None:
+    from .trace import Trace
+
     trace = Trace(run)
     _write(trace.text(), target)
-    _say_written(target, run, "" if trace.clock.is_even else "; its times are too long to stand in proportion")
+    _say_written(target, run.counts, "" if trace.clock.is_even else "; its times are too long to stand in proportion")
 
 
-def _say_written(target: str, run: Run, more: str) -> None:
-    _say(f"{_shown_target(target)}: {run.counts}{more}")
+def _say_written(target: str, counts: str, more: str) -> None:
+    _say(f"{_shown_target(target)}: {counts}{more}")
 
 
 def _shown_target(target: str) -> str:
@@ -319,6 +341,8 @@ def _shown_target(target: str) -> str:
 def _open(arguments: argparse.Namespace, target: str) -> None:
     """Opens the page in the browser, where that is asked for."""
     if arguments.open:
+        import webbrowser
+
         webbrowser.open(Path(target).resolve().as_uri())
 
 
@@ -356,11 +380,14 @@ def _show(one: Inputs, arguments: argparse.Namespace, inputs: List[Inputs], targ
         return _show_orders(InOrders(one, _orders_words(arguments)), arguments, target)
     if arguments.trace:
         return _write_trace(one.run(), target)
-    return _show_page(one.run(), arguments, target)
+    return _show_page(one, arguments, target)
 
 
 def _compare(arguments: argparse.Namespace) -> None:
     """Shows two runs beside each other."""
+    from .compared import Compared
+    from .compared_forms import ComparedPage, text_lines
+
     inputs = [Inputs(name) for name in arguments.compare]
     target = arguments.output
     if target is None or _is_folder(target):

@@ -5,14 +5,15 @@ var HANGS = {
   loop: "is fired when this loop ends: ", task: "is fired when this task ends: "
 };
 var stories = document.getElementById("stories"), tree = document.getElementById("tree"), lines = null, planted = null;
+var tickSeconds = drawn ? drawn.tick : Number(stories.dataset.tick);
 function known() {
   if (!lines) lines = new Map(stories.textContent.split("\n").filter(Boolean).map(function (line) { return [line.split(" ", 1)[0], line]; }));
   return lines;
 }
 // the numbers of all Deferreds
-function numbers() { return Array.from(known().keys()); }
+function numbers() { return drawn ? drawn.numbers : Array.from(known().keys()); }
 function story(number) {
-  var line = known().get(String(number));
+  var line = drawn ? drawn.story(Number(number)) : known().get(String(number));
   if (!line) return null;
   var words = line.split(" ");
   return {
@@ -35,8 +36,8 @@ function stepsOf(words) {
   return open[0];
 }
 function inTicks(count) {
-  var seconds = count * Number(stories.dataset.tick), said = several(count, "tick", "ticks");
-  if (!Number(stories.dataset.tick)) return said;
+  var seconds = count * tickSeconds, said = several(count, "tick", "ticks");
+  if (!tickSeconds) return said;
   if (seconds >= 1000) return said + " (" + seconds.toFixed(0) + " s)";
   if (seconds && seconds < 0.001) return said + " (" + Number((seconds * 1000).toPrecision(3)) + " ms)";
   return said + " (" + Number(seconds.toPrecision(4)) + " s)";
