@@ -1,4 +1,5 @@
-"""`make_drawing [--check]`: writes `deferreds/view/drawing.js`, the modules of the view by which a page draws itself.
+"""`make_drawing [--check]`: writes what a page draws itself by: `deferreds/view/drawing.js`, which is the view's modules as JavaScript,
+and `drawing.html`, the page of a long run without its run, which has that script.
 
 With --check nothing is written. Status 0: it is written, or is what it was made from; 1: with --check, it isn't; 64: the words are wrong.
 """
@@ -13,6 +14,8 @@ from typing import Dict, List, Sequence
 import deferreds.view
 from deferreds.ending import ended, say
 from deferreds.language import LANGUAGE
+from deferreds.view.document import shell
+from deferreds.view.long_pages import MARK, SHELL
 
 from .javascript import written
 
@@ -21,8 +24,8 @@ FILE = FOLDER / "drawing.js"
 
 #: the modules, each after those that it uses
 MODULES = (
-    "places phrases texts lines records nesting causes world fold sections batches left facts durations hanging units scripts report "
-    "stories sizes sources run events layout folding markup shapes ruler chart windows axis page"
+    "sources sizes places phrases texts lines records nesting causes world fold sections batches left facts durations hanging units "
+    "scripts report stories run events layout folding markup shapes ruler chart windows axis page"
 ).split()
 
 #: what is left out, since the browser has it otherwise
@@ -53,12 +56,15 @@ def main(words: List[str]) -> int:
     if words not in ([], ["--check"]):
         say("usage: make_drawing [--check]")
         return 64
+    made = script()
+    texts = {FILE: made, Path(SHELL): shell(made, MARK.decode("ascii"))}
     if not words:
-        FILE.write_text(script(), encoding="utf-8")
-    elif FILE.read_text(encoding="utf-8") != script():
-        say(f"make_drawing: {FILE} isn't what it is made from; make_drawing writes it anew")
-        return 1
-    return 0
+        for path, text in texts.items():
+            path.write_text(text, encoding="utf-8")
+    stale = [path for path, text in texts.items() if path.read_text(encoding="utf-8") != text]
+    for path in stale:
+        say(f"make_drawing: {path} isn't what it is made from; make_drawing writes it anew")
+    return 1 if stale else 0
 
 
 if __name__ == "__main__":

@@ -12,8 +12,8 @@ from typing import Any, Dict, Iterator, List, Optional, Tuple
 from unittest import mock
 
 from deferreds.view import texts
-from deferreds.view.document import MOST_PLAIN, drawn
 from deferreds.view.layout import SLOT
+from deferreds.view.long_pages import MOST_PLAIN, Packed, page_that_draws
 from deferreds.view.page import NARROW
 from deferreds.view.pages import written_page
 from deferreds.view.run import Run
@@ -111,10 +111,11 @@ class InBrowser(unittest.TestCase):
 
     def show_drawn(self, told: samples.Text, fragment: str = "", most: int = AT_A_TIME, first: Optional[int] = None, last: Optional[int] = None) -> float:
         """Opens the page of a run that draws itself, in windows of so many lines."""
-        lines = told.run().fold.rows
-        with mock.patch("deferreds.view.document.AT_A_TIME", most):
-            page = drawn(told.source, told.text.encode("utf-8"), first, last, [row.entry.line for row in lines[:MOST_PLAIN]], len(lines))
-        self.path.write_text(page, encoding="utf-8")
+        rows = told.run().fold.rows
+        with mock.patch("deferreds.view.long_pages.AT_A_TIME", most):
+            packed = Packed(told.source, first, last)
+        packed.take(told.text.encode("utf-8"))
+        self.path.write_bytes(page_that_draws(told.source.title, packed, len(rows), [row.entry.line for row in rows[:MOST_PLAIN]]))
         return self.browser.open(self.path, fragment)
 
     def asked(self, expression: str) -> Any:

@@ -8,7 +8,7 @@ import unittest
 from pathlib import Path
 from typing import List
 
-from deferreds.view.document import MOST_PLAIN
+from deferreds.view.long_pages import MOST_PLAIN
 from deferreds.view.sizes import AT_A_TIME
 from deferreds.view.sources import Source
 from deferreds.view.texts import shortened, visible

@@ -9,6 +9,7 @@ from typing import Any, Iterator, List, Tuple
 
 from deferreds.checkout import TOP
 from deferreds.twisted.rows import ANY_LINES, read_rows, row_files
+from deferreds.view.long_pages import Packed, page_that_draws
 from deferreds.view.run import run_of
 from deferreds.view.sources import Source
 from describing import drawing
@@ -88,9 +89,9 @@ class Drawn(InBrowser):
 
     def _replace(self, text: str) -> None:
         """Opens the page with these lines in the place of its own."""
-        from deferreds.view.document import drawn
-
-        self.path.write_text(drawn(Source("t", False), text.encode("utf-8"), None, None, [], 2), encoding="utf-8")
+        packed = Packed(Source("t", False))
+        packed.take(text.encode("utf-8"))
+        self.path.write_bytes(page_that_draws("t", packed, 2, []))
         self.browser.open(self.path)
 
 

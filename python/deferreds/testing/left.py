@@ -9,10 +9,9 @@ from ..twisted.recording.recorder import Recorder
 from ..twisted.recording.saying import Said
 from ..twisted.telling import Advance, Record, Thing
 from ..view.pages import page_of
-from ..view.places import SUFFIX as PLACES
 from ..view.report import Finding, Kind, Severity
 from ..view.run import Run, run_of
-from ..view.sources import Source
+from ..view.sources import PLACES, Source
 from ..view.terminal import Terminal
 
 _MOST_SHOWN = 3

@@ -18,7 +18,7 @@ it is given as; 73: the page can't be written. With several scripts it is the fi
 from __future__ import annotations
 
 import argparse
-import gc
+import io
 import os
 import sys
 from functools import partial
@@ -27,14 +27,13 @@ from pathlib import Path
 from typing import IO, TYPE_CHECKING, Callable, Iterator, List, NoReturn, Optional, Set
 
 from ..checkout import as_called, command_name
-from ..ending import ended, open_streams, say, writing
+from ..ending import say, writing
 from ..sampling import MOST_SEED
 from ..survey import MOST_ORDERS, ORDERS
 from .batches import NotBatches, parse_batches
-from .document import MOST_PLAIN, drawn
-from .glances import glance
 from .inputs import NO_INPUT, NO_OUTPUT, STANDARD, USAGE, Failed, InOrders, Inputs, read_any
-from .sizes import AT_A_TIME, MOST_WRITTEN, parts_of
+from .long_pages import long_page, page_name
+from .sizes import said_of_parts
 from .texts import clipped, visible
 
 # (what reads a run is imported where it is used: most of the time of a page that draws itself would go to that)
@@ -230,9 +229,8 @@ def _targets(arguments: argparse.Namespace, inputs: List[Inputs]) -> Iterator[st
         if output and not is_folder:
             yield output
             continue
-        stem = "script" if one.main == STANDARD else Path(one.main).stem
-        ending = _ending(arguments)
-        names = (f"{stem}{f'_{number}' if number > 1 else ''}{ending}" for number in range(1, len(inputs) + 1))
+        main, ending = "script" if one.main == STANDARD else one.main, _ending(arguments)
+        names = (page_name(main, f"{f'_{number}' if number > 1 else ''}{ending}") for number in range(1, len(inputs) + 1))
         name = next(name for name in names if name not in taken)
         taken.add(name)
         yield os.fspath(Path(output or "", name))
@@ -262,16 +260,21 @@ def _is_same(one: str, other: str) -> bool:
 
 
 def _write(text: str, target: str) -> None:
+    """Writes a page or a trace."""
+    _write_bytes(text.encode("utf-8"), target)
+
+
+def _write_bytes(data: bytes, target: str) -> None:
     """Writes a page or a trace, and its folder where that isn't there."""
     if target == STANDARD:
         with writing():
-            sys.stdout.write(text)
+            sys.stdout.write(data.decode("utf-8"))
             sys.stdout.flush()
         return
     try:
         path = Path(target)
         path.parent.mkdir(parents=True, exist_ok=True)
-        path.write_text(text, encoding="utf-8")
+        path.write_bytes(data)
     except (OSError, ValueError) as error:
         why = error.strerror if isinstance(error, OSError) else "it is no name of a file"
         raise Failed(NO_OUTPUT, f"{target} can't be written: {why}") from None
@@ -293,23 +296,17 @@ def _print_text(run: Run, asked: Optional[str]) -> None:
 
 def _show_page(one: Inputs, arguments: argparse.Namespace, target: str) -> None:
     told, asked = one.told(), (arguments.first, arguments.last)
-    seen = glance(told.data, MOST_PLAIN) if not told.source.is_journal else None
-    if seen is not None and seen.lines > MOST_WRITTEN:
-        lines, counts = seen.lines, seen.counts(told.source)
-        _write(drawn(told.source, told.data, *asked, seen.first, lines), target)
+    drawn = long_page(told.source, io.BytesIO(told.data), *asked) if not told.source.is_journal else None
+    if drawn is not None:
+        _write_bytes(drawn.page, target)
+        lines, counts = drawn.size.lines, drawn.size.counts(told.source.events, told.source.tick)
     else:
         from .pages import page_of
 
         run = told.run()
-        lines, counts = len(run.fold.rows), run.counts
         _write(page_of(told.source, told.text, run, *asked), target)
-    window, there = parts_of(lines, *asked)
-    part = ""
-    if len(window) < len(there):
-        part = f", {AT_A_TIME} at a time" + (f", up to line {there.stop}" if there.stop < lines else "")
-    elif len(window) < lines:
-        part = f", of which the chart shows {window.start + 1} to {window.stop}"
-    _say_written(target, counts, part)
+        lines, counts = len(run.fold.rows), run.counts
+    _say_written(target, counts, said_of_parts(lines, *asked))
     _open(arguments, target)
 
 
@@ -405,9 +402,3 @@ def _compare(arguments: argparse.Namespace) -> None:
     _write(ComparedPage(compared).html(), target)
     _say(f"{_shown_target(target)}: {compared.verdict}")
     _open(arguments, target)
-
-
-if __name__ == "__main__":
-    open_streams()
-    gc.disable()  # what a run is made of stays until the end, and looking through it again and again takes an eighth of the time
-    sys.exit(ended(lambda: main(sys.argv[1:]), command_name("view")))

@@ -33,10 +33,68 @@ Language.prototype.$fields = ["versions", "words", "keys", "lines", "classes", "
 return { Word, Key, Line, Language };
 })();
 $m_language.LANGUAGE = (function (told) { var made = $m_language; return new made.Language([], told[0].map(function (one) { return new made.Word(...one); }), [], told[1].map(function (one) { return new made.Line(...one); }), null, told[2]); })([[["advance",["event"],[{"least":0,"most":1000000000000000,"type":"number"}],"[\"advance\",N]",1],["drain",["event"],[{"least":0,"most":2048,"type":"number"}],"[\"drain\",N]",1],["deferred",["event","action"],[{"of":"deferred","type":"new"}],"[\"deferred\",D]",1],["deferred",["event","action"],[{"of":"deferred","type":"new"},{"of":"body","type":"object"}],"[\"deferred\",D,BODY]",1],["callback",["event","action"],[{"of":"deferred","type":"found"},{"type":"value"}],"[\"callback\",D,VALUE]",1],["errback",["event","action"],[{"of":"deferred","type":"found"},{"of":"class","type":"found"},{"type":"text"}],"[\"errback\",D,CLASS,TEXT]",1],["addCallback",["event","action"],[{"of":"deferred","type":"found"},{"of":"body","type":"object"}],"[\"addCallback\",D,BODY]",1],["addErrback",["event","action"],[{"of":"deferred","type":"found"},{"of":"body","type":"object"}],"[\"addErrback\",D,BODY]",1],["addBoth",["event","action"],[{"of":"deferred","type":"found"},{"of":"body","type":"object"}],"[\"addBoth\",D,BODY]",1],["addCallbacks",["event","action"],[{"of":"deferred","type":"found"},{"of":"body","type":"object"},{"of":"body","type":"object"}],"[\"addCallbacks\",D,BODY,BODY]",1],["chain",["event","action"],[{"of":"deferred","type":"found"},{"of":"deferred","type":"found"}],"[\"chain\",D,E]",1],["pause",["event","action"],[{"of":"deferred","type":"found"}],"[\"pause\",D]",1],["unpause",["event","action"],[{"of":"deferred","type":"found"}],"[\"unpause\",D]",1],["cancel",["event","action"],[{"of":"deferred","type":"found"}],"[\"cancel\",D]",1],["addTimeout",["event","action"],[{"of":"deferred","type":"found"},{"least":0,"most":1000000000000,"type":"number"}],"[\"addTimeout\",D,N]",1],["note",["event","action"],[{"type":"text"}],"[\"note\",TEXT]",1],["list",["event","action"],[{"of":"deferred","type":"new"},{"of":{"of":"deferred","type":"found"},"type":"array"},{"of":{"type":"flag","words":["fireOnOneCallback","fireOnOneErrback","consumeErrors"]},"type":"array"}],"[\"list\",D,[D..],[FLAG..]]",1],["gather",["event","action"],[{"of":"deferred","type":"new"},{"of":{"of":"deferred","type":"found"},"type":"array"},{"of":{"type":"flag","words":["consumeErrors"]},"type":"array"}],"[\"gather\",D,[D..],[FLAG..]]",1],["maybe",["event","action"],[{"of":"deferred","type":"new"},{"of":"body","type":"object"}],"[\"maybe\",D,BODY]",1],["lock",["event","action"],[{"of":"lock","type":"new"}],"[\"lock\",L]",1],["semaphore",["event","action"],[{"of":"lock","type":"new"},{"least":1,"most":65536,"type":"number"}],"[\"semaphore\",L,N]",1],["acquire",["event","action"],[{"of":"deferred","type":"new"},{"of":"lock","type":"found"}],"[\"acquire\",D,L]",1],["release",["event","action"],[{"of":"lock","type":"found"}],"[\"release\",L]",1],["runWith",["event","action"],[{"of":"deferred","type":"new"},{"of":"lock","type":"found"},{"of":"body","type":"object"}],"[\"runWith\",D,L,BODY]",1],["queue",["event","action"],[{"of":"queue","type":"new"},{"least":0,"most":65536,"type":"bound"},{"least":0,"most":65536,"type":"bound"}],"[\"queue\",Q,SIZE,BACKLOG]",1],["put",["event","action"],[{"of":"queue","type":"found"},{"type":"value"}],"[\"put\",Q,VALUE]",1],["get",["event","action"],[{"of":"deferred","type":"new"},{"of":"queue","type":"found"}],"[\"get\",D,Q]",1],["later",["event","action"],[{"of":"call","type":"new"},{"least":0,"most":1000000000000,"type":"number"},{"of":"body","type":"object"}],"[\"later\",C,N,BODY]",1],["cancelCall",["event","action"],[{"of":"call","type":"found"}],"[\"cancelCall\",C]",1],["resetCall",["event","action"],[{"of":"call","type":"found"},{"least":0,"most":1000000000000,"type":"number"}],"[\"resetCall\",C,N]",3],["delayCall",["event","action"],[{"of":"call","type":"found"},{"least":0,"most":1000000000000,"type":"number"}],"[\"delayCall\",C,N]",3],["loop",["event","action"],[{"of":"loop","type":"new"},{"of":"deferred","type":"new"},{"least":1,"most":1000000000000,"type":"number"},{"type":"boolean"},{"of":"body","type":"object"}],"[\"loop\",P,D,N,NOW,BODY]",1],["stopLoop",["event","action"],[{"of":"loop","type":"found"}],"[\"stopLoop\",P]",1],["cooperate",["event","action"],[{"of":"task","type":"new"},{"of":{"of":"body","type":"object"},"type":"array"}],"[\"cooperate\",T,[BODY..]]",1],["whenDone",["event","action"],[{"of":"deferred","type":"new"},{"of":"task","type":"found"}],"[\"whenDone\",D,T]",1],["pauseTask",["event","action"],[{"of":"task","type":"found"}],"[\"pauseTask\",T]",1],["stopTask",["event","action"],[{"of":"task","type":"found"}],"[\"stopTask\",T]",1],["resumeTask",["event","action"],[{"of":"task","type":"found"}],"[\"resumeTask\",T]",1],["inline",["event","action"],[{"of":"deferred","type":"new"},{"of":{"of":"statement","type":"words"},"type":"array"}],"[\"inline\",D,[STATEMENT..]]",1],["thread",["event","action"],[{"of":"deferred","type":"new"},{"least":0,"most":1000000000000,"type":"number"},{"of":"work","type":"words"}],"[\"thread\",D,N,WORK]",1],["threadIn",["event","action"],[{"of":"deferred","type":"new"},{"of":"pool","type":"found"},{"least":0,"most":1000000000000,"type":"number"},{"of":"work","type":"words"}],"[\"threadIn\",D,POOL,N,WORK]",2],["do",["statement"],[{"of":"action","type":"words"}],"[\"do\",ACTION]",1],["await",["statement"],[{"of":"deferred","type":"found"}],"[\"await\",D]",1],["try",["statement"],[{"of":{"of":"statement","type":"words"},"type":"array"},{"of":{"of":"class","type":"found"},"type":"array"},{"of":{"of":"statement","type":"words"},"type":"array"}],"[\"try\",[STATEMENT..],[CLASS..],[STATEMENT..]]",1],["end",["statement"],[{"of":"leaving","type":"words"}],"[\"end\",END]",1],["return",["end","leaving"],[{"type":"value"}],"[\"return\",VALUE]",1],["pass",["end","leaving"],[],"[\"pass\"]",1],["plus",["end","leaving"],[{"least":-9223372036854775808,"most":9223372036854775807,"type":"number"}],"[\"plus\",N]",1],["raise",["end","leaving"],[{"of":"class","type":"found"},{"type":"text"}],"[\"raise\",CLASS,TEXT]",1],["trap",["end"],[{"of":{"of":"class","type":"found"},"type":"array"},{"type":"value"}],"[\"trap\",[CLASS..],VALUE]",1],["wait",["end"],[{"of":"deferred","type":"found"}],"[\"wait\",D]",1],["value",["work"],[{"type":"value"}],"[\"value\",VALUE]",1],["raise",["work"],[{"of":"class","type":"found"},{"type":"text"}],"[\"raise\",CLASS,TEXT]",1],["sum",["work"],[{"least":0,"most":1000000,"type":"number"}],"[\"sum\",N]",1]],[["new",[{"type":"deferred"},{"type":"new name"}],"plain"],["name",[{"type":"deferred"},{"type":"name"}],"plain"],["add",[{"type":"deferred"}],"plain"],["fire",[{"type":"fired"},{"type":"outcome"}],"plain"],["swallow",[{"type":"deferred"}],"plain"],["refuse",[{"type":"deferred"}],"plain"],["run",[{"type":"deferred"}],"begins"],["set",[{"type":"deferred"},{"type":"outcome"}],"ends"],["take",[{"type":"deferred"},{"type":"deferred"},{"type":"outcome"}],"ends"],["wait",[{"type":"deferred"},{"type":"deferred"}],"ends"],["hand",[{"type":"deferred"},{"type":"deferred"},{"type":"outcome"}],"plain"],["pause",[{"type":"deferred"}],"plain"],["unpause",[{"type":"deferred"}],"plain"],["cancel",[{"type":"deferred"}],"plain"],["note",[{"type":"text"}],"plain"],["unhandled",[{"type":"failure"}],"plain"],["lock",[{"of":"lock","type":"object","which":"made"}],"plain"],["semaphore",[{"of":"lock","type":"object","which":"made"},{"type":"number"}],"plain"],["acquire",[{"of":"lock","type":"object","which":"last"},{"type":"deferred"}],"plain"],["release",[{"of":"lock","type":"object","which":"any"}],"plain"],["queue",[{"of":"queue","type":"object","which":"made"},{"type":"bound"},{"type":"bound"}],"plain"],["put",[{"of":"queue","type":"object","which":"last"},{"type":"value"}],"plain"],["get",[{"of":"queue","type":"object","which":"last"},{"type":"deferred"}],"plain"],["later call",[{"of":"call","type":"object","which":"made"},{"type":"due"}],"plain"],["later loop",[{"of":"loop","type":"object","which":"any"},{"type":"due"}],"plain"],["later tick",[{"type":"due"}],"next tick"],["later job",[{"type":"job"},{"type":"due"}],"plain"],["later timeout",[{"type":"deferred"},{"type":"due"}],"plain"],["uncall",[{"of":"call","type":"object","which":"last"}],"plain"],["reset",[{"of":"call","type":"object","which":"last"},{"type":"due"}],"plain"],["call",[{"of":"call","type":"object","which":"any"}],"due"],["tick",[],"tick"],["deliver",[{"type":"job"}],"due"],["timeout",[{"type":"deferred"}],"due"],["loop",[{"of":"loop","type":"object","which":"made"},{"type":"deferred"}],"loop"],["turn",[{"of":"loop","type":"object","which":"any"}],"turn"],["stop",[{"of":"loop","type":"object","which":"last"}],"plain"],["task",[{"of":"task","type":"object","which":"made"}],"plain"],["step",[{"of":"task","type":"object","which":"any"}],"step"],["hold",[{"of":"task","type":"object","which":"any"},{"type":"deferred"}],"plain"],["end",[{"of":"task","type":"object","which":"any"},{"type":"outcome"}],"plain"],["pausetask",[{"of":"task","type":"object","which":"last"}],"plain"],["resumetask",[{"of":"task","type":"object","which":"any"}],"plain"],["whendone",[{"of":"task","type":"object","which":"last"},{"type":"deferred"}],"plain"],["await",[{"type":"deferred"},{"type":"deferred"}],"plain"],["job",[{"type":"job"},{"type":"deferred"}],"plain"],["advance",[{"type":"time"}],"outer"],["drain",[],"outer"],["post",[{"type":"number"},{"type":"number"}],"due"]],{"bytes":1048576,"callers":8,"classes":256,"depth":127,"jobs":4096,"name":32,"nodes":65536,"pools":4,"posts":256,"time":1000000000000000}]);
+var $m_sources = (function () {
+var PLACES, RECORDING;
+[PLACES, RECORDING] = [".places.json", ".recording"];
+class Source extends $Tuple {
+constructor(title, is_journal, script = "", places = "", tick = "", stopped = null, begins = null, problem = "") { super(); this.title = title; this.is_journal = is_journal; this.script = script; this.places = places; this.tick = tick; this.stopped = stopped; this.begins = begins; this.problem = problem; }
+get events() {
+let document, events;
+try {
+document = ($true(this.script) ? $m_json.loads(this.script) : null);
+} catch ($e) {
+if (!$is_error($e, [ValueError, RecursionError])) throw $e;
+return 0;
+}
+events = ($isinstance(document, $dict) ? $get(document, "events") : null);
+return ($isinstance(events, $list) ? $len(events) : 0);
+}
+}
+Source.prototype.$fields = ["title", "is_journal", "script", "places", "tick", "stopped", "begins", "problem"];
+return { PLACES, RECORDING, Source };
+})();
+var $m_sizes = (function () {
+var MOST_ROWS, AT_A_TIME, MOST_LINES;
+[MOST_ROWS, AT_A_TIME, MOST_LINES] = [5000, 2000, 100000];
+var MOST_WRITTEN;
+MOST_WRITTEN = 1000;
+function several(count, one, many) {
+return `${$str(count)} ${$str(((count === 1) ? one : many))}`;
+}
+function counts_of(lines, deferreds, events, time, tick, weight) {
+let parts;
+parts = [several(lines, "line", "lines"), several(deferreds, "Deferred", "Deferreds")];
+if ($true(events)) {
+$append(parts, several(events, "event", "events"));
+}
+$append(parts, $add(`time 0 to ${$str(time)}`, ($true(tick) ? `, a tick is ${$str(tick)}` : "")));
+if ($true(weight)) {
+$append(parts, `weight ${$str(weight)}`);
+}
+return $join(", ", parts);
+}
+function said_of_parts(lines, first, last) {
+let window, there;
+[window, there] = parts_of(lines, first, last);
+if (($len(window) < $len(there))) {
+return $add(`, ${$str(AT_A_TIME)} at a time`, ((there.stop < lines) ? `, up to line ${$str(there.stop)}` : ""));
+}
+return (($len(window) < lines) ? `, of which the chart shows ${$str($add(window.start, 1))} to ${$str(window.stop)}` : "");
+}
+function parts_of(lines, first, last, most = AT_A_TIME) {
+let start, stop, part;
+if (((first == null) && (last == null))) {
+return [$range($min(lines, most)), $range($min(lines, MOST_LINES))];
+}
+start = ($min($max(1, $or(first, () => 1)), $max(1, lines)) - 1);
+stop = $min(lines, ((last != null) ? last : lines), $add(start, MOST_ROWS));
+part = $range(start, $max(start, stop));
+return [part, part];
+}
+return { MOST_ROWS, AT_A_TIME, MOST_LINES, MOST_WRITTEN, several, counts_of, said_of_parts, parts_of };
+})();
 var $m_places = (function () {
 var quote = $m_parse.quote;
-var SUFFIX;
-SUFFIX = ".places.json";
 class Place extends $Tuple {
 constructor(file, line) { super(); this.file = file; this.line = line; }
 get text() {
@@ -110,7 +168,7 @@ return new Place($at(files, file), line);
 }
 throw new NotPlaces(`in its ${$str(key)}, that of ${$str(name)} isn't the number of a file and a line`);
 }
-return { SUFFIX, Place, NotPlaces, Places, NOWHERE, read_places, _table, _place };
+return { Place, NotPlaces, Places, NOWHERE, read_places, _table, _place };
 })();
 var $m_phrases = (function () {
 var Place = $m_places.Place;
@@ -145,10 +203,7 @@ said = $add(said, ($true(said) ? [", ", part] : [part]));
 }
 return (($len(parts) > most) ? $add(said, [" \u2026"]) : said);
 }
-function several(count, one, many) {
-return `${$str(count)} ${$str(((count === 1) ? one : many))}`;
-}
-return { OfDeferred, OfLine, OfEvent, OfScript, OfPlace, words, listed, several };
+return { OfDeferred, OfLine, OfEvent, OfScript, OfPlace, words, listed };
 })();
 var $m_texts = (function () {
 var _UNSEEN;
@@ -285,7 +340,7 @@ var $m_records = (function () {
 var Entry = $m_lines.Entry;
 var Outcome = $m_lines.Outcome;
 var Phrase = $m_phrases.Phrase;
-var several = $m_phrases.several;
+var several = $m_sizes.several;
 class State extends $Enum {
 }
 $members(State, [["UNFIRED", "unfired"], ["OK", "ok"], ["FAIL", "fail"], ["WAIT", "wait"], ["RUN", "run"]]);
@@ -849,7 +904,6 @@ var OfLine = $m_phrases.OfLine;
 var OfScript = $m_phrases.OfScript;
 var Phrase = $m_phrases.Phrase;
 var listed = $m_phrases.listed;
-var several = $m_phrases.several;
 var Actor = $m_records.Actor;
 var ArrowKind = $m_records.ArrowKind;
 var Bracket = $m_records.Bracket;
@@ -859,6 +913,7 @@ var GotNull = $m_records.GotNull;
 var Made = $m_records.Made;
 var Record = $m_records.Record;
 var Row = $m_records.Row;
+var several = $m_sizes.several;
 var Call = $m_world.Call;
 var Job = $m_world.Job;
 var Lock = $m_world.Lock;
@@ -1914,8 +1969,8 @@ var OfDeferred = $m_phrases.OfDeferred;
 var OfLine = $m_phrases.OfLine;
 var Phrase = $m_phrases.Phrase;
 var listed = $m_phrases.listed;
-var several = $m_phrases.several;
 var words = $m_phrases.words;
+var several = $m_sizes.several;
 var Shelf = $m_world.Shelf;
 class Circle extends $Tuple {
 constructor(ring) { super(); this.ring = ring; }
@@ -2298,7 +2353,6 @@ var OfScript = $m_phrases.OfScript;
 var Part = $m_phrases.Part;
 var Phrase = $m_phrases.Phrase;
 var listed = $m_phrases.listed;
-var several = $m_phrases.several;
 var words = $m_phrases.words;
 var NOWHERE = $m_places.NOWHERE;
 var Places = $m_places.Places;
@@ -2309,6 +2363,7 @@ var Made = $m_records.Made;
 var Record = $m_records.Record;
 var Row = $m_records.Row;
 var Script = $m_scripts.Script;
+var several = $m_sizes.several;
 var Shelf = $m_world.Shelf;
 var T = $m_world.T;
 var _MOST_HELD;
@@ -2957,54 +3012,6 @@ var _UP;
 _UP = $frozenset($set([Does.WAITS, Does.CHILD, Does.CHAIN]));
 return { MOST_BRANCHES, _CLOSERS, _ASKED, _SILENT, _BETWEEN, _TOLD, Does, Step, Mode, Branch, Stories, _IN_VAIN, _UP };
 })();
-var $m_sizes = (function () {
-var several = $m_phrases.several;
-var MOST_ROWS, AT_A_TIME, MOST_LINES;
-[MOST_ROWS, AT_A_TIME, MOST_LINES] = [5000, 2000, 100000];
-var MOST_WRITTEN;
-MOST_WRITTEN = 1000;
-function counts_of(lines, deferreds, events, time, tick, weight) {
-let parts;
-parts = [several(lines, "line", "lines"), several(deferreds, "Deferred", "Deferreds")];
-if ($true(events)) {
-$append(parts, several(events, "event", "events"));
-}
-$append(parts, $add(`time 0 to ${$str(time)}`, ($true(tick) ? `, a tick is ${$str(tick)}` : "")));
-if ($true(weight)) {
-$append(parts, `weight ${$str(weight)}`);
-}
-return $join(", ", parts);
-}
-function parts_of(lines, first, last, most = AT_A_TIME) {
-let start, stop, part;
-if (((first == null) && (last == null))) {
-return [$range($min(lines, most)), $range($min(lines, MOST_LINES))];
-}
-start = ($min($max(1, $or(first, () => 1)), $max(1, lines)) - 1);
-stop = $min(lines, ((last != null) ? last : lines), $add(start, MOST_ROWS));
-part = $range(start, $max(start, stop));
-return [part, part];
-}
-return { MOST_ROWS, AT_A_TIME, MOST_LINES, MOST_WRITTEN, counts_of, parts_of };
-})();
-var $m_sources = (function () {
-class Source extends $Tuple {
-constructor(title, is_journal, script = "", places = "", tick = "", stopped = null, begins = null, problem = "") { super(); this.title = title; this.is_journal = is_journal; this.script = script; this.places = places; this.tick = tick; this.stopped = stopped; this.begins = begins; this.problem = problem; }
-get events() {
-let document, events;
-try {
-document = ($true(this.script) ? $m_json.loads(this.script) : null);
-} catch ($e) {
-if (!$is_error($e, [ValueError, RecursionError])) throw $e;
-return 0;
-}
-events = ($isinstance(document, $dict) ? $get(document, "events") : null);
-return ($isinstance(events, $list) ? $len(events) : 0);
-}
-}
-Source.prototype.$fields = ["title", "is_journal", "script", "places", "tick", "stopped", "begins", "problem"];
-return { Source };
-})();
 var $m_run = (function () {
 var Batches = $m_batches.Batches;
 var text_of = $m_batches.text_of;
@@ -3019,7 +3026,6 @@ var parts = $m_lines.parts;
 var read_end = $m_lines.read_end;
 var read_line = $m_lines.read_line;
 var Phrase = $m_phrases.Phrase;
-var several = $m_phrases.several;
 var NOWHERE = $m_places.NOWHERE;
 var Places = $m_places.Places;
 var read_places = $m_places.read_places;
@@ -3029,6 +3035,7 @@ var Script = $m_scripts.Script;
 var read_script = $m_scripts.read_script;
 var places_of = $m_sections.places_of;
 var counts_of = $m_sizes.counts_of;
+var several = $m_sizes.several;
 var Source = $m_sources.Source;
 var Stories = $m_stories.Stories;
 var in_seconds = $m_units.in_seconds;
@@ -4439,7 +4446,6 @@ var Events = $m_events.Events;
 var isolated = $m_markup.isolated;
 var placed = $m_markup.placed;
 var OfDeferred = $m_phrases.OfDeferred;
-var several = $m_phrases.several;
 var ArrowKind = $m_records.ArrowKind;
 var Ended = $m_records.Ended;
 var Look = $m_records.Look;
@@ -4457,6 +4463,7 @@ var arrow = $m_shapes.arrow;
 var bar = $m_shapes.bar;
 var AT_A_TIME = $m_sizes.AT_A_TIME;
 var parts_of = $m_sizes.parts_of;
+var several = $m_sizes.several;
 var Html = $m_texts.Html;
 var escaped = $m_texts.escaped;
 var joined = $m_texts.joined;

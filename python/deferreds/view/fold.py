@@ -10,8 +10,9 @@ from typing import Callable, Dict, List, Optional, Sequence
 from .causes import Causes
 from .lines import NULL, End, Entry
 from .nesting import LAST_POSTS, Nesting, Place
-from .phrases import OfDeferred, OfEvent, OfLine, OfScript, Phrase, listed, several
+from .phrases import OfDeferred, OfEvent, OfLine, OfScript, Phrase, listed
 from .records import Actor, ArrowKind, Bracket, BracketKind, By, GotNull, Made, Record, Row
+from .sizes import several
 from .world import Call, Job, Lock, Loop, Phase, Queue, Task, Tick, Wait, World
 
 _FIRINGS = frozenset({"fire", "refuse", "swallow"})

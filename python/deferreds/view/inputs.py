@@ -14,10 +14,10 @@ from ..ending import say
 from ..program import NOT_RUN, NotRun, found
 from ..survey import ONE_OUTCOME, SEVERAL_OUTCOMES, TOO_MANY
 from .batches import Batches, text_of
-from .places import SUFFIX, NotPlaces, read_places
+from .places import NotPlaces, read_places
 from .recordings import tick_beside
 from .refusals import read_refusal
-from .sources import Source
+from .sources import PLACES, Source
 
 # (what reads a run is imported where it is used: most of the time of a page that draws itself would go to that)
 if TYPE_CHECKING:
@@ -96,7 +96,7 @@ class Inputs(NamedTuple):
                 raise Failed(NO_INPUT, f"{self.places} doesn't tell places: {why}") from None
             return text
         source = self.script or self.main
-        path = Path(source).with_suffix(SUFFIX) if source != STANDARD else None
+        path = Path(source).with_suffix(PLACES) if source != STANDARD else None
         if path is None or not path.is_file():
             return ""
         try:

@@ -19,11 +19,10 @@ from .document import FRAME_BASE, asset, policy_hash, script_of, style_of, writt
 from .markup import isolated
 from .orders import Came, Endings, Orders, Way
 from .page import Page
-from .phrases import several
 from .records import ended
 from .run import Run
 from .shapes import CLASSES, SIGNS
-from .sizes import MOST_ROWS
+from .sizes import MOST_ROWS, several
 from .texts import Html, escaped, framed, joined, shortened
 
 #: how many charts the page has at most, and how many lines these have together

@@ -7,12 +7,12 @@ from typing import Dict, Iterator, List, Optional, Tuple
 from .axis import Axis
 from .events import Events
 from .markup import isolated, placed
-from .phrases import OfDeferred, several
+from .phrases import OfDeferred
 from .records import ArrowKind, Ended, Look, Record, State, ended
 from .report import Finding, Kind, Severity
 from .run import Run
 from .shapes import CLASSES, SAYS, SIGNS, arrow, bar
-from .sizes import AT_A_TIME, parts_of
+from .sizes import AT_A_TIME, parts_of, several
 from .texts import Html, escaped, joined, shortened
 from .units import seconds_of
 from .windows import Window

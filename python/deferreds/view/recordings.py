@@ -7,7 +7,7 @@ import re
 from pathlib import Path
 from typing import Any
 
-SUFFIX = ".recording"
+from .sources import RECORDING
 
 _TICK = re.compile("(?:1/)?[1-9][0-9]{0,9} (?:s|ms|µs|ns)")
 
@@ -27,6 +27,6 @@ def tick_beside(name: str) -> str:
     """The tick of the recording that a script or a journal is of; an empty text where it is of none."""
     path = Path(name)
     try:
-        return read_tick(path.with_suffix(SUFFIX).read_text(encoding="utf-8"), path.name)
+        return read_tick(path.with_suffix(RECORDING).read_text(encoding="utf-8"), path.name)
     except (OSError, ValueError):
         return ""

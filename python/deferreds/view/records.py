@@ -6,7 +6,8 @@ import enum
 from typing import List, NamedTuple, Optional, Tuple
 
 from .lines import Entry, Outcome
-from .phrases import Phrase, several
+from .phrases import Phrase
+from .sizes import several
 
 
 class State(enum.Enum):

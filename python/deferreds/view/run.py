@@ -10,13 +10,13 @@ from .facts import Facts, read_facts
 from .fold import Fold
 from .left import Left, LeftDeferred, left_of
 from .lines import parts, read_end, read_line
-from .phrases import Phrase, several
+from .phrases import Phrase
 from .places import NOWHERE, Places, read_places
 from .records import Finish
 from .report import Report
 from .scripts import Script, read_script
 from .sections import places_of
-from .sizes import counts_of
+from .sizes import counts_of, several
 from .sources import Source
 from .stories import Stories
 from .units import in_seconds

@@ -9,9 +9,9 @@ from typing import Any, Dict, Optional
 import twisted
 
 from ...view.pages import page_of
-from ...view.phrases import several
-from ...view.places import SUFFIX as PLACES
 from ...view.run import run_of
+from ...view.sizes import several
+from ...view.sources import PLACES
 from ...view.sources import Source
 from ..programs import Program
 from .agreeing import Agreement, agreement
