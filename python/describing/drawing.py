@@ -17,7 +17,7 @@ from deferreds.language import LANGUAGE
 from deferreds.view.document import shell
 from deferreds.view.long_pages import MARK, SHELL
 
-from .javascript import written
+from .javascript import Unknown, written
 
 FOLDER = Path(deferreds.view.__file__).parent
 FILE = FOLDER / "drawing.js"
@@ -56,7 +56,11 @@ def main(words: List[str]) -> int:
     if words not in ([], ["--check"]):
         say("usage: make_drawing [--check]")
         return 64
-    made = script()
+    try:
+        made = script()
+    except Unknown as unknown:
+        say(f"make_drawing: {FOLDER}/{unknown}")
+        return 1
     texts = {FILE: made, Path(SHELL): shell(made, MARK.decode("ascii"))}
     if not words:
         for path, text in texts.items():

@@ -1,8 +1,8 @@
 """Writes modules of the view as JavaScript, so that a page draws a long run itself, by the same rules as `./view` does.
 
-It knows the part of Python that these modules use, and raises Unknown at anything else. What Python means by a word is in
-`deferreds/view/python.js`. Names of methods aren't resolved by type: a method of a text, a list or a dictionary becomes a function
-of that file, which looks at what it gets.
+It knows the part of Python that these modules use (NOTES.md says which), and raises Unknown at anything else. What Python means by a
+word is in `deferreds/view/python.js`. Names of methods aren't resolved by type: a method of a text, a list or a dictionary becomes a
+function of that file, which looks at what it gets.
 """
 
 from __future__ import annotations
@@ -10,6 +10,7 @@ from __future__ import annotations
 import ast
 import enum
 import json
+import re
 from typing import Dict, Iterator, List, Mapping, Optional, Sequence, Set, Tuple, Union
 
 #: words of JavaScript that Python takes as names
@@ -35,17 +36,52 @@ _BOOLEAN_METHODS = frozenset({"endswith", "isascii", "isprintable", "startswith"
 _ERRORS = frozenset({"AttributeError", "Exception", "IndexError", "KeyError", "RecursionError", "TypeError", "ValueError"})
 _TYPES = frozenset({"Callable", "Dict", "FrozenSet", "List", "Optional", "Pattern", "Sequence", "Set", "Tuple", "Type", "Union"})
 _COMPARED: Dict[type, str] = {ast.Lt: "<", ast.LtE: "<=", ast.Gt: ">", ast.GtE: ">="}
-_MODULES = frozenset({"bisect", "heapq", "html", "json", "os", "re"})
+#: what `python.js` has of modules of Python, and those of which nothing is needed
+_MODULES: Dict[str, Set[str]] = {
+    "bisect": {"bisect_right"},
+    "checkout": {"as_called"},
+    "heapq": {"heappop", "heappush"},
+    "html": {"escape"},
+    "json": {"JSONDecoder", "JSONEncoder", "dumps", "loads"},
+    "os": {"path"},
+    "os.path": {"basename"},
+    "parse": {"quote"},
+    "re": {"DOTALL", "compile"},
+}
+_NEEDLESS = frozenset({"__future__", "collections", "pathlib", "typing"})
 _PLAIN = {"cast", "Html"}
+
+#: the words that a function of Python may be given by name: `python.js` does with each what these modules mean by it
+_NAMED: Dict[str, Set[str]] = {
+    "dumps": {"separators", "ensure_ascii"},
+    "encode": {"errors"},
+    "escape": {"quote"},
+    "JSONDecoder": {"parse_int", "parse_float", "parse_constant"},
+    "JSONEncoder": {"separators", "ensure_ascii"},
+    "max": {"key", "default"},
+    "min": {"key", "default"},
+    "quote": {"errors"},
+    "sort": {"key"},
+    "sorted": {"key"},
+}
+
+#: methods and attributes of what Python gives: of patterns, JSON, errors and enumerations
+_OF_PYTHON = frozenset({"decode", "fullmatch", "sub"})
+_ATTRIBUTES = frozenset({"length", "name", "value", "start", "stop"})
+
+_FORMAT = re.compile(r"0?[0-9]*(\.[0-9]+)?[fgx]?")
+#: the greatest integer up to which JavaScript has each
+_MOST_INTEGER = 2**53 - 1
 
 Function = Union[ast.FunctionDef, ast.Lambda]
 
 
 class Unknown(Exception):
-    """A module uses a part of Python that isn't known here."""
+    """A module uses a part of Python that isn't known here: the line, and what it is; and once that is known, the file."""
 
-    def __init__(self, node: ast.AST, what: str = "") -> None:
-        super().__init__(f"line {getattr(node, 'lineno', 0)}: {what or type(node).__name__}")
+    def __init__(self, node: ast.AST, what: str = "", file: str = "") -> None:
+        self.node, self.what = node, what or type(node).__name__
+        super().__init__(f"{file or '?'}, line {getattr(node, 'lineno', 0)}: {self.what} isn't known to the translation")
 
 
 class Kind(enum.Enum):
@@ -62,10 +98,15 @@ class Names:
     def __init__(self, trees: Mapping[str, ast.Module]) -> None:
         self.classes: Dict[str, Dict[str, Kind]] = {}
         self.parameters: Dict[str, List[str]] = {}
+        #: names of functions whose parameters differ from module to module
+        self.unclear: Set[str] = set()
+        #: the names that each module binds anywhere
+        self.bindings: Dict[str, Set[str]] = {}
         methods: Set[str] = set()
         fields: Set[str] = set()
         for module, tree in trees.items():
             kinds = self.classes[module] = dict.fromkeys(_ERRORS, Kind.PLAIN)
+            self.bindings[module] = set(_bound(tree))
             for node in ast.walk(tree):
                 if isinstance(node, ast.ImportFrom):
                     known = self.classes.get(_last(node.module), {})
@@ -74,22 +115,44 @@ class Names:
                     kinds[node.name] = _kind_of(node)
                     self._note_class(node, methods, fields)
                 if isinstance(node, ast.FunctionDef):
-                    self.parameters.setdefault(node.name, [one.arg for one in node.args.args if one.arg != "self"])
+                    self._note_parameters(node.name, [one.arg for one in node.args.args if one.arg != "self"])
                 if isinstance(node, ast.Attribute) and isinstance(node.ctx, ast.Store):
                     fields.add(node.attr)
         #: what is a method of its object wherever it isn't called
         self.bound = methods - fields
+        #: all that an object of these classes may be asked for
+        self.attributes = methods | fields
+
+    def _note_parameters(self, name: str, parameters: List[str]) -> None:
+        if self.parameters.setdefault(name, parameters) != parameters:
+            self.unclear.add(name)
 
     def _note_class(self, node: ast.ClassDef, methods: Set[str], fields: Set[str]) -> None:
         if _kind_of(node) is Kind.TUPLE:
             names = [name for name, _ in _fields(node)]
-            self.parameters[node.name] = names
+            self._note_parameters(node.name, names)
             fields.update(names)
+        fields.update(target.id for one in node.body if isinstance(one, ast.Assign) for target in one.targets if isinstance(target, ast.Name))
         for one in node.body:
             if isinstance(one, ast.FunctionDef):
                 (fields if _is_property(one) else methods).add(one.name)
                 if one.name == "__init__":
-                    self.parameters[node.name] = [each.arg for each in one.args.args[1:]]
+                    self._note_parameters(node.name, [each.arg for each in one.args.args[1:]])
+
+
+def _bound(tree: ast.AST) -> Iterator[str]:
+    """The names that are bound anywhere in a module."""
+    for node in ast.walk(tree):
+        if isinstance(node, ast.Name) and isinstance(node.ctx, ast.Store):
+            yield node.id
+        elif isinstance(node, ast.arg):
+            yield node.arg
+        elif isinstance(node, (ast.FunctionDef, ast.ClassDef)):
+            yield node.name
+        elif isinstance(node, ast.ExceptHandler) and node.name:
+            yield node.name
+        elif isinstance(node, ast.ImportFrom) and _last(node.module) not in _NEEDLESS:
+            yield from (one.asname or one.name for one in node.names)
 
 
 def _last(module: Optional[str]) -> str:
@@ -160,6 +223,7 @@ class Module:
         self._tree = tree
         self._names = names
         self._classes = names.classes[name]
+        self._bound = names.bindings[name]
         self._left_out = frozenset(left_out)
         self._exported: List[str] = []
         #: the methods of the class that is written
@@ -174,9 +238,11 @@ class Module:
     def _top(self, node: ast.stmt) -> Iterator[str]:
         if isinstance(node, ast.ImportFrom):
             module = _last(node.module)
-            if module in ("__future__", "typing", "collections", "pathlib"):
+            if module in _NEEDLESS:
                 return
             for one in node.names:
+                if module not in self._names.classes and one.name not in _MODULES.get(module, set()):
+                    raise Unknown(node, f"{one.name} of {module}")
                 if one.name not in _TYPES:
                     yield f"var {_safe(one.asname or one.name)} = $m_{module}.{one.name};"
         elif isinstance(node, ast.Import):
@@ -204,6 +270,7 @@ class Module:
     def _class(self, node: ast.ClassDef) -> Iterator[str]:
         bases = [one for one in map(ast.unparse, node.bases) if not one.startswith("Generic")]
         kind = _kind_of(node)
+        _check_class(node, kind)
         if kind is Kind.ENUM:
             yield f"class {node.name} extends $Enum {{"
         elif kind is Kind.TUPLE:
@@ -234,6 +301,9 @@ class Module:
         return f"constructor({', '.join(given)}) {{ super(); {kept} }}"
 
     def _function(self, node: ast.FunctionDef, kind: str) -> Iterator[str]:
+        for decorator in node.decorator_list:  # (a static method is called by an object, too)
+            if ast.unparse(decorator) != {"get": "property", "method": "staticmethod"}.get(kind):
+                raise Unknown(decorator, "a decorator")
         star = "*" if _yields(node) else ""
         arguments = self._arguments(node)
         if kind == "function":
@@ -252,6 +322,8 @@ class Module:
         yield "};" if kind == "arrow" else "}"
 
     def _arguments(self, node: Function) -> str:
+        if node.args.posonlyargs or node.args.kwonlyargs or node.args.kwarg is not None:
+            raise Unknown(node, "a parameter that is given only by its place or only by its name, or **")
         given = [one for one in node.args.args if one.arg != "self"]
         missing = len(given) - len(node.args.defaults)
         written = [
@@ -280,6 +352,8 @@ class Module:
             if node.value is not None:
                 yield from self._assign([node.target], self._value(node.value))
         elif isinstance(node, ast.AugAssign):
+            if not _is_place(node.target):
+                raise Unknown(node, "a place that is worked out twice")
             loaded = ast.copy_location(ast.BinOp(left=_loaded(node.target), op=node.op, right=node.value), node)
             yield from self._assign([node.target], self._value(loaded))
         elif isinstance(node, ast.If):
@@ -290,6 +364,8 @@ class Module:
                 yield from self._block(node.orelse)
             yield "}"
         elif isinstance(node, ast.While):
+            if node.orelse:
+                raise Unknown(node, "while with else")
             yield f"while ({self._test(node.test)}) {{"
             yield from self._block(node.body)
             yield "}"
@@ -320,7 +396,7 @@ class Module:
 
     def _try(self, node: ast.Try) -> Iterator[str]:
         if node.finalbody or node.orelse or len(node.handlers) != 1 or node.handlers[0].type is None:
-            raise Unknown(node)
+            raise Unknown(node, "try with other than one except")
         handler = node.handlers[0]
         kinds = handler.type.elts if isinstance(handler.type, ast.Tuple) else [handler.type] if handler.type is not None else []
         yield "try {"
@@ -335,6 +411,8 @@ class Module:
     def _assign(self, targets: Sequence[ast.expr], value: str) -> Iterator[str]:
         places = [target for target in targets if isinstance(target, ast.Subscript)]
         others = [self._target(target) for target in targets if not isinstance(target, ast.Subscript)]
+        if len(places) > 1:
+            raise Unknown(places[1], "a value that is put into several places")
         if others:
             yield f"{' = '.join(others)} = {value};"
         for place in places:
@@ -417,22 +495,39 @@ class Module:
         return written
 
     def _write_Constant(self, node: ast.Constant) -> str:
-        if isinstance(node.value, bytes):
-            return json.dumps(list(node.value))
-        if isinstance(node.value, str):
-            return _text(node.value)
-        return json.dumps(node.value)
+        value = node.value
+        if isinstance(value, bytes):
+            return json.dumps(list(value))
+        if isinstance(value, str):
+            return _text(value)
+        is_number = isinstance(value, (int, float)) and abs(value) <= _MOST_INTEGER
+        if not is_number and value is not None:
+            raise Unknown(node, f"the value {value!r}")
+        return json.dumps(value)
 
     def _write_Name(self, node: ast.Name) -> str:
-        return f"${node.id}" if node.id in _BUILT_IN else _safe(node.id)
+        if node.id in self._bound or node.id in self._classes:
+            return _safe(node.id)
+        if node.id in _BUILT_IN:
+            return f"${node.id}"
+        raise Unknown(node, f"the name {node.id}")
 
     def _write_Attribute(self, node: ast.Attribute) -> str:
         is_own = isinstance(node.value, ast.Name) and node.value.id == "self" and node.attr in self._methods
-        if isinstance(node.value, ast.Name) and node.value.id in _MODULES:
-            return f"$m_{node.value.id}.{node.attr}"
+        if ast.unparse(node.value) in _MODULES:
+            return self._of_module(node)
+        if node.attr not in self._names.attributes | _ATTRIBUTES:
+            raise Unknown(node, f"the attribute {node.attr}")
         if is_own or node.attr in self._names.bound:
             return f"$bound({self._value(node.value)}, {_text(node.attr)})"
         return f"{self._value(node.value)}.{node.attr}"
+
+    def _of_module(self, node: ast.Attribute) -> str:
+        """What a module of Python has under a name."""
+        module = ast.unparse(node.value)
+        if node.attr not in _MODULES[module]:
+            raise Unknown(node, f"{module}.{node.attr}")
+        return f"$m_{module}.{node.attr}"
 
     def _write_Tuple(self, node: ast.Tuple) -> str:
         return f"[{', '.join(map(self._value, node.elts))}]"
@@ -530,12 +625,15 @@ class Module:
             raise Unknown(node)
         if node.format_spec is None:
             return f"$str({self._value(node.value)})"
-        spec = ast.literal_eval(ast.unparse(node.format_spec)[1:]) if isinstance(node.format_spec, ast.JoinedStr) else None
-        return f"$format({self._value(node.value)}, {_text(str(spec))})"
+        parts = node.format_spec.values if isinstance(node.format_spec, ast.JoinedStr) else []
+        spec = "".join(one.value for one in parts if isinstance(one, ast.Constant))
+        if len(parts) != 1 or not _FORMAT.fullmatch(spec):
+            raise Unknown(node, "a format")
+        return f"$format({self._value(node.value)}, {_text(spec)})"
 
     def _write_Yield(self, node: ast.Yield) -> str:
         if node.value is None:
-            raise Unknown(node)
+            raise Unknown(node, "yield without a value")
         return f"yield {self._value(node.value)}"
 
     def _write_YieldFrom(self, node: ast.YieldFrom) -> str:
@@ -560,6 +658,8 @@ class Module:
 
     def _loops(self, generators: Sequence[ast.comprehension], does: str) -> str:
         for one in reversed(generators):
+            if one.is_async:
+                raise Unknown(one.iter, "async for")
             tests = [self._test(test) for test in one.ifs]
             does = f"if ({' && '.join(tests)}) {does}" if tests else does
             does = f"for (const {self._target(one.target)} of {self._value(one.iter)}) {{ {does} }}"
@@ -568,6 +668,7 @@ class Module:
     # calls
 
     def _write_Call(self, node: ast.Call) -> str:
+        self._check_named(node)
         if isinstance(node.func, ast.Name):
             return self._call_of_name(node, node.func.id)
         if isinstance(node.func, ast.Attribute):
@@ -603,8 +704,8 @@ class Module:
         owner = func.value
         if isinstance(owner, ast.Call) and isinstance(owner.func, ast.Name) and owner.func.id == "super":
             return f"super({self._given(node, func.attr)})"
-        if isinstance(owner, ast.Name) and owner.id in _MODULES:
-            return f"$m_{owner.id}.{func.attr}({', '.join(map(self._value, node.args))})"
+        if ast.unparse(owner) in _MODULES:
+            return f"{self._of_module(func)}({', '.join(map(self._value, node.args))})"
         if isinstance(owner, ast.Name) and owner.id == "dict":
             return f"$dict_{func.attr}({', '.join(map(self._value, node.args))})"
         if func.attr in _METHODS:
@@ -613,15 +714,25 @@ class Module:
         if func.attr == "_replace":
             changed = ", ".join(f"{one.arg}: {self._value(one.value)}" for one in node.keywords)
             return f"{self._value(owner)}.$replaced({{ {changed} }})"
+        if func.attr not in self._names.attributes | _OF_PYTHON:
+            raise Unknown(node, f"the method {func.attr}")
         return f"{self._value(owner)}.{func.attr}({self._given(node, func.attr)})"
+
+    def _check_named(self, node: ast.Call) -> None:
+        """Raises Unknown where words are given by name whose places aren't known."""
+        named = {one.arg for one in node.keywords}
+        name = node.func.id if isinstance(node.func, ast.Name) else node.func.attr if isinstance(node.func, ast.Attribute) else ""
+        if not named or named <= _NAMED.get(name, set()) or name == "_replace":
+            return
+        parameters = self._names.parameters.get(name, [])
+        if name in self._names.unclear or not named <= set(parameters):
+            raise Unknown(node, f"{name} with {', '.join(map(str, named))}")
 
     def _given(self, node: ast.Call, name: str) -> str:
         given = list(map(self._value, node.args))
         parameters = self._names.parameters.get(name, [])
         named = {one.arg: self._value(one.value) for one in node.keywords}
         if named and parameters:
-            if not set(named) <= set(parameters):
-                raise Unknown(node, f"{name} with {', '.join(map(str, named))}")
             last = max(map(parameters.index, (one for one in named if one is not None)))
             given += [named.get(one, "undefined") for one in parameters[len(given) : last + 1]]
         return ", ".join(given)
@@ -633,7 +744,27 @@ def _is_plain(node: ast.expr) -> bool:
         return node.value is not None
     if isinstance(node, ast.Call):
         return isinstance(node.func, ast.Name) and node.func.id == "len"
-    return isinstance(node, (ast.BinOp, ast.JoinedStr))
+    return isinstance(node, ast.JoinedStr) or (isinstance(node, ast.BinOp) and isinstance(node.op, (ast.Sub, ast.Div, ast.FloorDiv, ast.Mod)))
+
+
+def _is_place(node: ast.expr) -> bool:
+    """Whether a place may be worked out twice."""
+    return _is_simple(node.value) and _is_simple(node.slice) if isinstance(node, ast.Subscript) else _is_simple(node)
+
+
+def _check_class(node: ast.ClassDef, kind: Kind) -> None:
+    """Raises Unknown where a class has more than is written of one of its kind."""
+    for one in [*node.decorator_list, *node.keywords]:
+        raise Unknown(one if isinstance(one, ast.expr) else node, "a class with a decorator or a word")
+    for each in node.body:
+        name = each.targets[0] if isinstance(each, ast.Assign) and len(each.targets) == 1 else None
+        is_member = isinstance(name, ast.Name) and (kind is Kind.ENUM or name.id == "__slots__")
+        is_field = isinstance(each, ast.AnnAssign) and (kind is Kind.TUPLE or each.value is None)
+        is_text = isinstance(each, ast.Expr) and isinstance(each.value, ast.Constant)
+        if isinstance(each, ast.FunctionDef) and each.name in _METHODS:
+            raise Unknown(each, f"a method {each.name}, which texts, lists or dictionaries have, too,")
+        if not (is_member or is_field or is_text or isinstance(each, (ast.FunctionDef, ast.Pass))):
+            raise Unknown(each, "what a class has beside its methods")
 
 
 def _loaded(node: ast.expr) -> ast.expr:
@@ -650,4 +781,4 @@ def written(sources: Sequence[Tuple[str, str, Sequence[str]]]) -> Iterator[str]:
         try:
             yield Module(name, trees[name], names, left_out).written()
         except Unknown as unknown:
-            raise Unknown(ast.Module(), f"{name}: {unknown}") from None
+            raise Unknown(unknown.node, unknown.what, f"{name}.py") from None

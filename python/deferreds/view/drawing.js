@@ -1088,7 +1088,9 @@ _name(row, entry, before) {
 $append(this._touch(row, entry.deferred).names, entry.name);
 }
 _add(row, entry, before) {
-this._touch(row, entry.deferred).pairs = $add(this._touch(row, entry.deferred).pairs, 1);
+let record;
+record = this._touch(row, entry.deferred);
+record.pairs = $add(record.pairs, 1);
 }
 _fire(row, entry, before) {
 let record, cancel;
@@ -1186,7 +1188,9 @@ record.paused_at = row.place;
 this._arrow(row, ArrowKind.PAUSE, record.number);
 }
 _unpause(row, entry, before) {
-this._touch(row, entry.deferred).pauses = (this._touch(row, entry.deferred).pauses - 1);
+let record;
+record = this._touch(row, entry.deferred);
+record.pauses = (record.pauses - 1);
 this._arrow(row, ArrowKind.PAUSE, entry.deferred);
 }
 _cancel(row, entry, before) {

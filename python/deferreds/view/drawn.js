@@ -2,7 +2,7 @@
 function inflate(text) {
   var signs = atob(text), bytes = new Uint8Array(signs.length);
   for (var at = 0; at < signs.length; at += 1) bytes[at] = signs.charCodeAt(at);
-  return new Response(new Blob([bytes]).stream().pipeThrough(new DecompressionStream("deflate"))).text();
+  return new Response(new Blob([bytes]).stream().pipeThrough(new DecompressionStream("deflate-raw"))).text();
 }
 // the page of the run, and its windows
 function draw(text) {
@@ -24,7 +24,7 @@ function failed(error) {
 document.getElementById("drawing").hidden = false;
 document.getElementById("drawing").textContent = "This page draws itself from the lines of the run.";
 if (typeof DecompressionStream === "undefined") failed("this browser is too old");
-else inflate(document.getElementById("run").textContent).then(function (text) {
+else Promise.resolve(document.getElementById("run").textContent).then(inflate).then(function (text) {
   var page = draw(text);
   document.getElementById("run").remove();
   begin(page);

@@ -211,7 +211,8 @@ class Fold:
         self._touch(row, entry.deferred).names.append(entry.name)
 
     def _add(self, row: Row, entry: Entry, before: Optional[Row]) -> None:
-        self._touch(row, entry.deferred).pairs += 1
+        record = self._touch(row, entry.deferred)
+        record.pairs += 1
 
     def _fire(self, row: Row, entry: Entry, before: Optional[Row]) -> None:
         record = self._fires(row, before, ArrowKind.FIRE)
@@ -297,7 +298,8 @@ class Fold:
         self._arrow(row, ArrowKind.PAUSE, record.number)
 
     def _unpause(self, row: Row, entry: Entry, before: Optional[Row]) -> None:
-        self._touch(row, entry.deferred).pauses -= 1
+        record = self._touch(row, entry.deferred)
+        record.pauses -= 1
         self._arrow(row, ArrowKind.PAUSE, entry.deferred)
 
     def _cancel(self, row: Row, entry: Entry, before: Optional[Row]) -> None:
