@@ -626,8 +626,8 @@ class Module:
         if node.format_spec is None:
             return f"$str({self._value(node.value)})"
         parts = node.format_spec.values if isinstance(node.format_spec, ast.JoinedStr) else []
-        spec = "".join(one.value for one in parts if isinstance(one, ast.Constant))
-        if len(parts) != 1 or not _FORMAT.fullmatch(spec):
+        spec = parts[0].value if len(parts) == 1 and isinstance(parts[0], ast.Constant) else None
+        if not isinstance(spec, str) or not _FORMAT.fullmatch(spec):
             raise Unknown(node, "a format")
         return f"$format({self._value(node.value)}, {_text(spec)})"
 
@@ -689,7 +689,7 @@ class Module:
         if self._classes.get(name) is Kind.ENUM:
             return f"{name}.$of({self._value(node.args[0])})"
         maker = "new " if name in self._classes else ""
-        return f"{maker}{self._write_Name(ast.Name(id=name, ctx=ast.Load()))}({self._given(node, name)})"
+        return f"{maker}{self._value(node.func)}({self._given(node, name)})"
 
     def _early(self, name: str, made: ast.GeneratorExp, default: Sequence[ast.expr]) -> str:
         """A search that ends at the first that is found."""

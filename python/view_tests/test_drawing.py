@@ -2,14 +2,20 @@
 
 from __future__ import annotations
 
+import contextlib
+import io
 import json
+import os
+import sys
 import unittest
 from pathlib import Path
-from typing import Any, Iterator, List, Tuple
+from typing import Any, Iterator, List
+from unittest import mock
 
 from deferreds.checkout import TOP
 from deferreds.twisted.rows import ANY_LINES, read_rows, row_files
-from deferreds.view.long_pages import Packed, page_that_draws
+from deferreds.view.long_pages import MARK, SHELL, Packed, page_that_draws
+from deferreds.view.page import Page
 from deferreds.view.run import run_of
 from deferreds.view.sources import Source
 from describing import drawing
@@ -32,7 +38,23 @@ _EXPRESSIONS = (
     "f'{1e6:g}'", "f'{2 / 3:.2f}'", "f'{255:04x}'", "f'{None} {True} {1}'", "'%s!' % 'a'", "[x for x in range(4) if x % 2]", "{x: x * x for x in range(3)}[2]",
     "any(x > 2 for x in [1, 2, 3])", "all([])", "next((x for x in [1, 5, 7] if x > 2), 0)", "list(enumerate(['a']))", "list(zip([1, 2], 'ab'))", "list(reversed('ab'))",
     "int('12')", "str(1.5)", "isinstance('a', str)", "isinstance(1, (str, list))", "isinstance({}, dict)", "1 < 2 <= 2", "[1, 2].index(2)", "'abc'.removeprefix('ab')",
-    "list(dict.fromkeys([2, 1, 2]))", "ord('\U0001f642')", "'a'.startswith('a')", "[*range(2), 5]", "'\x7f'.isprintable()",
+    "list(dict.fromkeys([2, 1, 2]))", "json.JSONEncoder(separators=(',', ':')).encode(json.JSONDecoder().decode('[9223372036854775807, -1, {\"a\": [-9007199254740993]}]'))",
+    "isinstance(json.JSONDecoder().decode('9223372036854775807'), int)", "str(json.JSONDecoder().decode('-9223372036854775808'))", "ord('\U0001f642')", "'a'.startswith('a')", "[*range(2), 5]", "'\x7f'.isprintable()",
+)  # fmt: skip
+
+
+#: parts of Python that aren't written as JavaScript: each is refused, and none is passed over
+_TOP = ("def", "class", "import", "from", "@")
+_REFUSED = (
+    "with a:\n    pass", "async def f():\n    pass", "x = a @ b", "x = a < f() < b", "for x in a:\n    pass\nelse:\n    pass",
+    "while a:\n    pass\nelse:\n    pass", "x = {**a}", "x = f(*a)(1)", "x = abs(a)", "x = a.title()", "x = a.imag", "a[f()] += 1", "a.b().c += 1",
+    "a[0] = b[0] = 1", "(a, *b) = a", "del a", "global x", "assert a", "x = (y := a)", "x = sorted(a, reverse=True)", "x = max(a, b, key=len, other=1)",
+    "a.sort(reverse=True)", "x = f(a, c=1)", "x = f(**a)", "x = a.split(sep='-')", "x = f'{a!r}'", "x = f'{a:,}'", "x = f'{a:{b}}'", "x = ...", "x = 9007199254740992",
+    "x = 1j", "x = a ** b", "x = ~a", "try:\n    pass\nfinally:\n    pass", "try:\n    pass\nexcept ValueError:\n    pass\nelse:\n    pass", "raise",
+    "try:\n    pass\nexcept:\n    pass", "def f(a, /):\n    pass", "def f(*, a):\n    pass", "def f(**a):\n    pass", "@f\ndef g():\n    pass", "class A(B, word=1):\n    pass",
+    "class A:\n    x = 1", "class A:\n    def get(self):\n        pass", "@f\nclass A:\n    pass", "class A:\n    @classmethod\n    def f(cls):\n        pass",
+    "from math import floor", "from .other import f", "import json\nx = json.load(1)", "import math\nx = math.pi", "def f():\n    def g():\n        yield 1\n    return g",
+    "def f(a):\n    yield", "x = [c async for c in a]", "match a:\n    case 1:\n        pass",
 )  # fmt: skip
 
 
@@ -51,6 +73,22 @@ def texts() -> Iterator[samples.Text]:
     places = recorded.with_suffix(".places.json").read_text(encoding="utf-8")
     source = Source("lost_answer", True, recorded.with_suffix(".json").read_text(encoding="utf-8"), places, "1/3 ms", problem="a <b>problem</b>")
     yield samples.Text(source, recorded.with_suffix(".journal").read_text(encoding="utf-8"))
+
+
+def rows() -> Iterator[samples.Text]:
+    """Runs of rows: some of each topic, and those with numbers that JavaScript would change."""
+    for path in row_files():
+        found = [row for row in read_rows(path) if row.status < 2 and f"{ANY_LINES}\n" not in row.output and "\n" in row.output]
+        for place, row in enumerate(found):
+            if place % 6 == 1 or "9223372036854775807" in row.script:
+                yield samples.Text(Source(row.name, True, row.script, stopped=row.status == 1), row.output)
+
+
+#: what a page of a run has, as JSON: a function of what it is read from, which makes its windows of 40 lines
+_PIECES = """(told) => {
+const page = new $m_page.Page($m_run.run_of(new $m_sources.Source(...told[0]), told[1]), null, null, 40), whole = (one) => Array.from(one.pieces()).join("");
+return JSON.stringify([whole(page), page.rules, page.later, page.numbers.map((number) => page.story(number)), page.windows.map((lines) => whole(page.shown_in(lines)))]);
+}"""
 
 
 class Drawn(InBrowser):
@@ -77,6 +115,18 @@ class Drawn(InBrowser):
             self.show(run, fragment)
             self.assertEqual(tree, self.asked("document.getElementById('tree').outerHTML"), one.source.title)
 
+    def test_its_pieces_are_those_of_python(self) -> None:
+        """Of many more runs, without showing each."""
+        modules = (drawing.FOLDER / "python.js").read_text(encoding="utf-8") + drawing.FILE.read_text(encoding="utf-8")
+        self.browser.open(Path(os.devnull))
+        self.asked(f"(() => {{ {modules}\n window.pieces = {_PIECES}; return 0; }})()")
+        for one in [*texts(), *rows()]:
+            page = Page(one.run(), most=40)
+            shown = [page.shown_in(lines) for lines in page.windows]
+            wanted = ["".join(page.pieces()), page.rules, page.later, list(map(page.story, page.numbers)), ["".join(window.pieces()) for window in shown]]
+            found = self.asked(f"pieces({json.dumps([one.source, one.text])})")
+            self.assertEqual(json.loads(json.dumps(wanted)), json.loads(found), one.source.title)
+
     def test_what_is_wrong_within_a_line_is_said(self) -> None:
         good = told("new #0 d\nfire #0 ok 1\n#0 d ok 1\n", [0, 1])
         lines = good.split("\n")
@@ -99,7 +149,7 @@ class Words(InBrowser):
     """Python in the browser means what it means."""
 
     def test_expressions(self) -> None:
-        module = "found = [\n" + "".join(f"    {one},\n" for one in _EXPRESSIONS) + "]\n"
+        module = "import json\nfound = [\n" + "".join(f"    {one},\n" for one in _EXPRESSIONS) + "]\n"
         script = (drawing.FOLDER / "python.js").read_text(encoding="utf-8") + "\n".join(written([("tried", module, ())]))
         self.browser.open(Path("/dev/null"))
         found: List[Any] = json.loads(self.asked(f"(() => {{ {script}\nreturn JSON.stringify($m_tried.found); }})()"))
@@ -119,10 +169,22 @@ class Script(unittest.TestCase):
             self.assertNotIn(sign, text)
 
     def test_what_isn_t_known_is_refused(self) -> None:
-        rows: Tuple[str, ...] = ("with a:\n    pass", "def f():\n    async def g(): pass", "x = a @ b", "x = a < f() < b", "for x in a:\n    pass\nelse:\n    pass", "x = {**a}", "x = f(*a)(1)")
-        for row in rows:
-            with self.subTest(row), self.assertRaises(Unknown):
-                list(written([("tried", row if row.startswith("def") else f"def f(a, b):\n    " + row.replace("\n", "\n    "), ())]))
+        for row in _REFUSED:
+            with self.subTest(row), self.assertRaisesRegex(Unknown, "^tried.py, line [1-9][0-9]*: .* isn't known to the translation$"):
+                list(written([("tried", row if row.startswith(_TOP) else "def f(a, b):\n    " + row.replace("\n", "\n    "), ())]))
+
+    def test_the_place_of_what_is_refused_is_said(self) -> None:
+        with self.assertRaisesRegex(Unknown, "^second.py, line 3: the name abs isn't known to the translation$"):
+            list(written([("first", "x = 1\n", ()), ("second", "from .first import x\n\ny = abs(x)\n", ())]))
+
+    def test_the_command_says_it_without_a_traceback(self) -> None:
+        said = io.StringIO()
+        with mock.patch.object(drawing, "MODULES", ["terminal"]), contextlib.redirect_stderr(said):
+            self.assertEqual(drawing.main(["--check"]), 1)
+        self.assertRegex(said.getvalue(), r"^make_drawing: .*/terminal\.py, line \d+: .* isn't known to the translation\n$")
+
+    def test_the_shell_has_one_place_for_a_run(self) -> None:
+        self.assertEqual(Path(SHELL).read_bytes().count(MARK), 1)
 
 
 if __name__ == "__main__":

@@ -335,7 +335,7 @@ function $next(x, other) {
   return found.done ? other : found.value;
 }
 // types: those of JSON
-function $type(x) { return typeof x === "string" ? $str : typeof x === "boolean" ? $bool : Number.isInteger(x) ? $int : Array.isArray(x) ? $list : $isPlain(x) || x instanceof Map ? $dict : x == null ? null : x.constructor; }
+function $type(x) { return x instanceof $Number ? (/[.eE]/.test(x.text) ? $float : $int) : typeof x === "string" ? $str : typeof x === "boolean" ? $bool : Number.isInteger(x) ? $int : Array.isArray(x) ? $list : $isPlain(x) || x instanceof Map ? $dict : x == null ? null : x.constructor; }
 function $isinstance(x, kind) {
   if (Array.isArray(kind)) return kind.some(function (one) { return $isinstance(x, one); });
   var plain = kind === $str || kind === $list || kind === $dict || kind === $int || kind === $bool;
@@ -393,6 +393,7 @@ var $m_checkout = { as_called: function (text) { return text; } };
 // JSON: a number that JavaScript would change keeps its text
 class $Number {
   constructor(text) { this.text = text; }
+  toString() { return this.text; }
 }
 var $m_json = {
   loads: function (text) { return JSON.parse(text); },
@@ -402,7 +403,7 @@ var $m_json = {
 };
 function $exact(text) {
   var marked = text.replace(/"(?:[^"\\]|\\.)*"|-?\d[\d.eE+-]*/g, function (part) {
-    return part[0] === '"' || String(Number(part)) === part ? part : '{"\u0000":"' + part + '"}';
+    return part[0] === '"' || String(Number(part)) === part ? part : '{"\\u0000":"' + part + '"}';
   });
   return JSON.parse(marked, function (key, value) { return $isPlain(value) && Object.hasOwn(value, "\u0000") ? new $Number(value["\u0000"]) : value; });
 }

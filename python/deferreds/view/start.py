@@ -69,3 +69,7 @@ def _is_more(facts: str, target: str) -> bool:
 def _page_of(facts: str) -> Optional[LongPage]:
     with open(facts, "rb") as file:
         return long_page(Source(os.path.basename(facts), False), file)
+
+
+if __name__ == "__main__":
+    start()
