@@ -17,6 +17,7 @@ from deferreds.twisted.rows import ANY_LINES, read_rows, row_files
 from deferreds.view.long_pages import MARK, SHELL, Packed, page_that_draws
 from deferreds.view.page import Page
 from deferreds.view.run import run_of
+from deferreds.view.sizes import AT_A_TIME, MOST_WRITTEN
 from deferreds.view.sources import Source
 from describing import drawing
 from describing.javascript import Unknown, written
@@ -61,13 +62,13 @@ _REFUSED = (
 def texts() -> Iterator[samples.Text]:
     """Runs of all kinds, as they are read."""
     yield samples.hostile_text()
-    yield samples.long_text(1_500)
+    yield samples.long_text(AT_A_TIME - 100)
     for path in sorted((Path(__file__).resolve().parent / "data").glob("*.jsonl")):
         script = (TOP / "examples" / f"{path.stem}.json").read_text(encoding="utf-8")
         yield samples.Text(Source(f"{path.stem}.json", False, script), path.read_text(encoding="utf-8"))
     for path in row_files():
         found = [row for row in read_rows(path) if row.status < 2 and f"{ANY_LINES}\n" not in row.output and "\n" in row.output]
-        for row in found[:1]:
+        for row in [row for row in found if row.output.count("\n") <= MOST_WRITTEN][:1]:
             yield samples.Text(Source(row.name, True, row.script, stopped=row.status == 1), row.output)
     recorded = TOP / "examples" / "python" / "lost_answer"
     places = recorded.with_suffix(".places.json").read_text(encoding="utf-8")
