@@ -151,6 +151,7 @@ function atHome(places) { return slots.some(function (row) { return row.id && pl
 function plant(number, stay) {
   var root = story(number);
   if (!root) return;
+  addLater();
   var told = branchesOf(number), places = new Set();
   told.found.forEach(function (one) { [one.step.row, one.step.end].forEach(function (row) { if (row !== null) places.add(row); }); });
   var first = root.steps.length && root.steps[0].row !== null ? root.steps[0].row + 1 : 0;

@@ -62,6 +62,18 @@ if (windows.length) {
   });
   linkFar();
 }
+// what isn't open at first comes once the page is seen, or a tree needs it
+var isLater = drawn !== null;
+function addLater() {
+  if (!isLater) return;
+  isLater = false;
+  drawn.later.forEach(function (part) { document.getElementById(part[0]).insertAdjacentHTML("beforeend", part[1]); });
+  if (windows.length) linkFar();
+  showDeferreds();
+  if (sought) seek(find.value);
+  if (chosen !== null) choose(chosen);
+  body.dataset.whole = "";
+}
 addEventListener("hashchange", follow);
 // (the browser goes to a place by itself, once the page is there: to the row of an outcome, too; a page that draws itself comes later)
 function arrive() {
@@ -73,12 +85,5 @@ if (!drawn) addEventListener("load", arrive);
 follow();
 if (drawn) {
   arrive();
-  // what isn't open at first comes once the page is seen
-  setTimeout(function () {
-    drawn.later.forEach(function (part) { document.getElementById(part[0]).insertAdjacentHTML("beforeend", part[1]); });
-    showDeferreds();
-    if (sought) seek(find.value);
-    if (chosen !== null) choose(chosen);
-    body.dataset.whole = "";
-  }, 100);
+  setTimeout(addLater, 100);
 }
