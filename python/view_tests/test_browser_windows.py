@@ -8,6 +8,7 @@ import unittest
 from pathlib import Path
 from typing import List
 
+from deferreds.view.axis import MOST
 from deferreds.view.long_pages import MOST_PLAIN
 from deferreds.view.sizes import AT_A_TIME
 from deferreds.view.sources import Source
@@ -96,6 +97,45 @@ class Windows(InBrowser):
         self.browser.press("/")
         self.asked("(() => { const find = document.getElementById('find'); find.value = 'turn poll'; find.dispatchEvent(new Event('input')); })()")
         self.assertIn("lines have turn poll, of lines 1 to 103:", self.asked("document.getElementById('focus').textContent"))
+        self.assertEqual(self.trouble(), [])
+
+    def test_a_filter_is_of_the_window_that_is_shown(self) -> None:
+        told = samples.long_text(500)
+        run = told.run()
+        self.show_drawn(told, most=200)
+        notes = [row.place for row in run.fold.rows[:200] if row.entry.word == "note"]
+        self.browser.click("#sieve summary")
+        self.browser.settle()
+        self.asked("document.querySelectorAll('#sieve input').forEach(box => { if (box.name === 'kind' && box.checked !== (box.value === 'note')) box.click(); })")
+        self.assertEqual(self.asked(LINES), notes)
+        self.assertIn(f"it hides {200 - len(notes)} of 200 lines", self.asked("document.querySelector('#sieve summary').textContent"))
+        self.open("201 to 400")
+        self.first(201)
+        self.assertEqual(self.asked(LINES), list(range(200, 400)))
+        self.assertEqual(self.trouble(), [])
+
+    def test_outcomes_and_the_time_axis_are_of_all_lines(self) -> None:
+        told = samples.long_text(500)
+        run = told.run()
+        self.show_drawn(told, most=200)
+        self.asked("new Promise(done => { (function look() { if ('whole' in document.body.dataset) return done(0); setTimeout(look, 20); })(); })")
+        ends = self.asked("[...document.querySelectorAll('.ends tr[data-d]')].map(row => Number(row.dataset.d))")
+        self.assertEqual(sorted(ends), list(run.fold.records))
+        self.browser.click("#time summary")
+        self.browser.settle()
+        rows = self.asked("[...document.querySelectorAll('#time tr[data-d]')].filter(row => row.getBoundingClientRect().height > 0).map(row => Number(row.dataset.d))")
+        self.assertEqual(len(rows), min(MOST, len(run.fold.records)))
+        self.assertTrue(self.asked("[...document.querySelectorAll('#time tr[data-d] line')].some(line => line.getBoundingClientRect().width > 0)"))
+        self.assertEqual(self.trouble(), [])
+
+    def test_an_address_of_a_deferred_shows_its_tree_and_its_value(self) -> None:
+        told = samples.long_text(700)
+        record = told.run().fold.records[42]
+        self.show_drawn(told, "#d=42", most=200)
+        self.first(record.row // 200 * 200 + 1)
+        self.assertTrue(self.asked("document.querySelector('#tree h2').textContent").startswith("#42 request_42"))
+        self.assertEqual(self.asked("document.querySelector('#tree .facts .mono').textContent"), record.end[3:])
+        self.assertTrue(0 <= self.asked("document.getElementById('tree').getBoundingClientRect().top") < 1000)
         self.assertEqual(self.trouble(), [])
 
     def test_hostile_texts_are_texts_in_each(self) -> None:
