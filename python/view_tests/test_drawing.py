@@ -6,7 +6,6 @@ import contextlib
 import io
 import json
 import os
-import sys
 import unittest
 from pathlib import Path
 from typing import Any, Iterator, List

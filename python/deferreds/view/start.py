@@ -15,7 +15,6 @@ from .long_pages import LongPage, long_page, page_name
 from .sizes import said_of_parts
 from .sources import PLACES, RECORDING, Source
 
-
 #: the options of which the page of a long run is written here
 _KNOWN = ({"--json"}, {"--json", "-o"})
 
