@@ -18,7 +18,7 @@ PYTHON = TOP / "python"
 
 _PACKAGE = PYTHON / "deferreds"
 _ROWS = TOP / "crates" / "test_rows" / "data"
-_SUFFIXES = (".py", ".typed", ".js", ".css", ".rows", ".json")
+_SUFFIXES = (".py", ".typed", ".js", ".css", ".html", ".rows", ".json")
 _LICENSE = "LICENSE"
 
 

@@ -11,16 +11,15 @@ from .checkout import command_name
 from .ending import ended, open_streams
 from .program import NOT_RUN
 from .twisted.known import UnknownTwisted, refuse_unusable
-from .view import command
+from .view.start import start
 
 #: the commands that run a program of the user's, whose standard streams are as they were given
 _RUN_PROGRAMS = ("record", "trial")
 
 
-def view() -> int:
+def view() -> None:
     """`deferreds-view`."""
-    open_streams()
-    return ended(lambda: command.main(sys.argv[1:]), command_name("view"))
+    start(command_name("view"))
 
 
 def record() -> int:

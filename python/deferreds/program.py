@@ -8,7 +8,6 @@ from __future__ import annotations
 import os
 import platform
 import signal
-import subprocess
 import sys
 from pathlib import Path
 from typing import NoReturn, Optional, Sequence, Tuple
@@ -50,6 +49,8 @@ def built() -> Path:
     program = found()
     if program != LAUNCHER:
         return program
+    import subprocess
+
     try:
         asked = subprocess.run(
             [os.fspath(LAUNCHER), "--program"], capture_output=True, text=True, check=False

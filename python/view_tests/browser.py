@@ -27,6 +27,8 @@ _FLAGS = (
 )
 _SECONDS = 60
 
+_IS_DRAWING = "document.querySelector('#drawing:not([data-failed])') !== null"
+
 Json = Dict[str, Any]
 
 
@@ -43,6 +45,30 @@ def found() -> Optional[str]:
         if path is not None:
             return path
     return None
+
+
+def _stat(process: str) -> List[str]:
+    """What Linux says of a process, from its state on; nothing if it has ended."""
+    try:
+        return Path("/proc", process, "stat").read_text(encoding="utf-8", errors="replace").rpartition(")")[2].split()
+    except OSError:
+        return []
+
+
+def _below(process: int) -> List[int]:
+    """The processes that this one has started, and those that they have."""
+    found = [int(name) for name in os.listdir("/proc") if name.isdigit() and _stat(name)[1:2] == [str(process)]]
+    return found + [one for child in found for one in _below(child)]
+
+
+def _is_of_pages(process: int) -> bool:
+    return b"--type=renderer" in Path("/proc", str(process), "cmdline").read_bytes()
+
+
+def _seconds(process: int) -> float:
+    """How many seconds of the processor the main thread of a process has taken."""
+    stat = _stat(f"{process}/task/{process}")
+    return sum(map(int, stat[11:13])) / os.sysconf("SC_CLK_TCK")
 
 
 class Browser:
@@ -143,7 +169,7 @@ class Browser:
         self._call("Emulation.setScriptExecutionDisabled", value=not on)
 
     def open(self, path: Path, fragment: str = "") -> float:
-        """Opens a file, waits until it is there, and tells how many seconds that took."""
+        """Opens a file, waits until it is there, and has drawn itself, and tells how many seconds that took."""
         if fragment:  # (another fragment alone wouldn't load the page anew)
             self._go("about:blank")
         return self._go(path.resolve().as_uri() + fragment)
@@ -156,7 +182,13 @@ class Browser:
             if time.monotonic() - begun > _SECONDS:
                 raise Broken(f"{address} isn't there after {_SECONDS} seconds")
             self.events.append(self._next())
+        while self.ask(_IS_DRAWING) and time.monotonic() - begun < _SECONDS:
+            time.sleep(0.02)
         return time.monotonic() - begun
+
+    def busy(self) -> float:
+        """How many seconds of the processor the threads have taken that run the scripts of pages, and draw them: more than one since the start."""
+        return sum(_seconds(child) for child in _below(self._pid) if _is_of_pages(child))
 
     def ask(self, expression: str) -> Any:
         """What an expression of JavaScript gives."""

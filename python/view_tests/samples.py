@@ -9,9 +9,9 @@ from typing import Iterator, List, NamedTuple
 from deferreds.twisted.rows import ANY_LINES, read_rows, row_files
 
 from deferreds.checkout import TOP
-from deferreds.view.facts import read_facts
-from deferreds.view.run import Run, run_of_facts, run_of_journal
+from deferreds.view.run import Run, run_of, run_of_journal
 from deferreds.view.scripts import Script
+from deferreds.view.sources import Source
 
 from .stand_in import told
 
@@ -36,6 +36,17 @@ HOSTILE = (
 )
 
 
+class Text(NamedTuple):
+    """What a run is read from, with its text."""
+
+    source: Source
+    text: str
+
+    def run(self) -> Run:
+        """The run."""
+        return run_of(self.source, self.text)
+
+
 class Sample(NamedTuple):
     """A run, with the name of its kind."""
 
@@ -49,6 +60,11 @@ def _json(text: str) -> str:
 
 def hostile() -> Run:
     """A run in which each hostile text stands wherever a text may: in notes, values, failures, names of classes, the title."""
+    return hostile_text().run()
+
+
+def hostile_text() -> Text:
+    """What that run is read from."""
     lines: List[str] = []
     ends: List[str] = []
     events: List[object] = []
@@ -82,8 +98,7 @@ def hostile() -> Run:
         for row, line in enumerate(lines)
         if line.startswith("unhandled")
     ]
-    facts = read_facts(told(output, begins, left))
-    return run_of_facts(facts, Script({"events": events}), "".join(HOSTILE[:8]))
+    return Text(Source("".join(HOSTILE[:8]), False, json.dumps({"events": events})), told(output, begins, left))
 
 
 def of_row(file: str, name: str) -> Run:
@@ -102,8 +117,7 @@ def told_by_the_program() -> Iterator[Sample]:
     """Examples, as `./deferreds --json` has told them."""
     for path in sorted((Path(__file__).resolve().parent / "data").glob("*.jsonl")):
         script = json.loads((TOP / "examples" / f"{path.stem}.json").read_text(encoding="utf-8"))
-        facts = read_facts(path.read_text(encoding="utf-8"))
-        yield Sample(path.stem, run_of_facts(facts, Script(script), f"{path.stem}.json"))
+        yield Sample(path.stem, Text(Source(f"{path.stem}.json", False, json.dumps(script)), path.read_text(encoding="utf-8")).run())
 
 
 def rows() -> Iterator[Sample]:
@@ -123,6 +137,11 @@ def rows() -> Iterator[Sample]:
 
 def long(lines: int) -> Run:
     """A run of some lines, with lanes that begin and end all along, some that stay, calls and waits."""
+    return long_text(lines).run()
+
+
+def long_text(lines: int) -> Text:
+    """What that run is read from."""
     written = ["lock l", "new #0 first", "new #1 second"]
     ends = {0: "unfired", 1: "unfired"}
     number = 2
@@ -152,7 +171,7 @@ def long(lines: int) -> Run:
         ends[number], ends[number + 1] = "ok null", f'fail ValueError "request {number} can\'t be read"'
         number += 2
     outcomes = [f"#{one} {'-' if one % 2 and one > 1 else 'x'} {end}" for one, end in ends.items()]
-    return run_of_journal("".join(f"{line}\n" for line in written + outcomes), f"{lines} lines")
+    return Text(Source(f"{lines} lines", True), "".join(f"{line}\n" for line in written + outcomes))
 
 
 def wide(lines: int) -> Run:

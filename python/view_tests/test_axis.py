@@ -7,7 +7,7 @@ import unittest
 from typing import List, Tuple
 
 from deferreds.view.axis import MOST
-from deferreds.view.page import Page
+from deferreds.view.pages import written_page
 from deferreds.view.run import Run, run_of_journal
 from deferreds.view.units import in_seconds, seconds_of
 
@@ -45,21 +45,21 @@ class Spent(unittest.TestCase):
 
     def test_the_outcomes_say_it_with_seconds(self) -> None:
         run = of(_TAKES)
-        self.assertIn("<td class=why>unfired 30 ticks, waited 170 ticks, 2 sides</td>", Page(run).html())
+        self.assertIn("<td class=why>unfired 30 ticks, waited 170 ticks, 2 sides</td>", written_page(run))
         run.tick = "1/4 s"
-        self.assertIn("<td class=why>unfired 30 ticks (7.5 s), waited 170 ticks (42.5 s), 2 sides</td>", Page(run).html())
+        self.assertIn("<td class=why>unfired 30 ticks (7.5 s), waited 170 ticks (42.5 s), 2 sides</td>", written_page(run))
 
     def test_seconds(self) -> None:
         said = [in_seconds(count, tick) for count, tick in ((1, ""), (1, "1 ms"), (0, "1 ms"), (1, "1 µs"), (12345, "1 s"), (1, "1/3 s"), (10**15, "1 ns"))]
         self.assertEqual(said, ["", "0.001 s", "0 s", "0.001 ms", "12345 s", "0.3333 s", "1000000 s"])
-        self.assertEqual([float(seconds_of(tick)) for tick in ("", "1/4 s", "2 ms")], [0, 0.25, 0.002])
+        self.assertEqual([seconds_of(1, tick) for tick in ("", "1/4 s", "2 ms")], [0, 0.25, 0.002])
 
 
 class Axis(unittest.TestCase):
     """What stands where on the axis."""
 
     def test_in_proportion_to_time(self) -> None:
-        page = Page(of(_TAKES)).html()
+        page = written_page(of(_TAKES))
         self.assertEqual(bars(page, 0), [("u", "0", "15"), ("wait", "15", "100"), ("tick", "0", "0")])
         self.assertEqual(
             bars(page, 1),
@@ -68,18 +68,18 @@ class Axis(unittest.TestCase):
 
     def test_marks_are_few_and_round(self) -> None:
         for end, step in ((1, 1), (7, 1), (9, 2), (200, 50), (12_345, 2_000), (10**15, 2 * 10**14)):
-            page = Page(of(["new #0 d", f"advance {end}"])).html()
+            page = written_page(of(["new #0 d", f"advance {end}"]))
             marks = [int(mark) for mark in re.findall(r"<text(?: class=last)? x=[0-9.]+% y=12>(\d+)</text>", page)]
             self.assertEqual(marks, list(range(0, end + 1, step)), end)
 
     def test_there_is_none_where_no_time_goes_on(self) -> None:
-        self.assertNotIn("id=time", Page(of(["new #0 d", "fire #0 ok 1"])).html())
-        self.assertNotIn("id=time", Page(of(["advance 5"])).html())
+        self.assertNotIn("id=time", written_page(of(["new #0 d", "fire #0 ok 1"])))
+        self.assertNotIn("id=time", written_page(of(["advance 5"])))
 
     def test_of_many_those_that_took_longest(self) -> None:
         lines = [f"new #{number} d" for number in range(2 * MOST)] + ["advance 1"]
         lines += [f"fire #{number} ok 1" for number in range(0, 2 * MOST, 2)] + ["advance 2"]
-        page = Page(of(lines)).html()
+        page = written_page(of(lines))
         self.assertIn(f"the {MOST} of {2 * MOST} Deferreds that were unfired or waited longest", page)
         part = page[page.index("<details id=time>") : page.index("</table></details><h2 id=what")]
         self.assertEqual([int(one) for one in re.findall(r"<tr data-d=(\d+)>", part)], list(range(1, 2 * MOST, 2)))

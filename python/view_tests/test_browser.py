@@ -8,13 +8,16 @@ import re
 import tempfile
 import unittest
 from pathlib import Path
-from typing import Any, Dict, Iterator, List, Tuple
+from typing import Any, Dict, Iterator, List, Optional, Tuple
 from unittest import mock
 
 from deferreds.view import texts
 from deferreds.view.layout import SLOT
-from deferreds.view.page import NARROW, Page
+from deferreds.view.long_pages import MOST_PLAIN, Packed, page_that_draws
+from deferreds.view.page import NARROW
+from deferreds.view.pages import written_page
 from deferreds.view.run import Run
+from deferreds.view.sizes import AT_A_TIME
 from deferreds.view.texts import Html, clipped, shortened, visible
 
 from . import samples
@@ -103,7 +106,16 @@ class InBrowser(unittest.TestCase):
 
     def show(self, run: Run, fragment: str = "") -> float:
         """Opens the page of a run, and tells how many seconds that took."""
-        self.path.write_text(Page(run).html(), encoding="utf-8")
+        self.path.write_text(written_page(run), encoding="utf-8")
+        return self.browser.open(self.path, fragment)
+
+    def show_drawn(self, told: samples.Text, fragment: str = "", most: int = AT_A_TIME, first: Optional[int] = None, last: Optional[int] = None) -> float:
+        """Opens the page of a run that draws itself, in windows of so many lines."""
+        rows = told.run().fold.rows
+        with mock.patch("deferreds.view.long_pages.AT_A_TIME", most):
+            packed = Packed(told.source, first, last)
+        packed.take(told.text.encode("utf-8"))
+        self.path.write_bytes(page_that_draws(told.source.title, packed, len(rows), [row.entry.line for row in rows[:MOST_PLAIN]]))
         return self.browser.open(self.path, fragment)
 
     def asked(self, expression: str) -> Any:

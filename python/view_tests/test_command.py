@@ -179,6 +179,7 @@ class Command(unittest.TestCase):
             ("a log\nnew #0 d\nof a program\n", "isn't a journal: 2 of its 3 lines aren't known"),
             (script, "it looks like a script, which is given without --journal"),
             (json.dumps(json.loads(script)), "it looks like a script"),
+            (f"\ufeff{script}", "it looks like a script"),
             (told("new #0 d\n#0 d unfired\n", [0]), "which is given with --json"),
         ):
             path = self.folder / "page.md"

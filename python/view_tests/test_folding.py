@@ -6,7 +6,8 @@ import unittest
 from typing import List, Tuple
 
 from deferreds.view.folding import Folding, written
-from deferreds.view.page import MOST_ROWS, Page
+from deferreds.view.page import Page
+from deferreds.view.sizes import AT_A_TIME
 from deferreds.view.run import Run, run_of_journal
 
 from . import samples
@@ -111,7 +112,7 @@ class All(unittest.TestCase):
         self.assertGreater(count, 60)
 
     def test_a_long_run_takes_no_longer_than_its_lines(self) -> None:
-        run = of(polling(MOST_ROWS // 6 - 1, "add #0"))
+        run = of(polling(AT_A_TIME // 6 - 1, "add #0"))
         self.assertEqual(len(folds(run)), 1)
 
 

@@ -346,14 +346,14 @@ class OfCommand(unittest.TestCase):
 
     def test_a_sample(self) -> None:
         status, output, errors = view("--orders", "--sample", 4, "--seed", 1, _FULL_QUEUE, "-o", self.folder)
-        target = self.folder / "full_queue.orders.html"
+        target = self.folder / "full_queue.sample.html"
         self.assertEqual((status, output, errors), (0, "", f"view: {target}: a sample of 4 of 6 orders, 2 outcomes; 2 charts\n"))
         self.assertEqual(rows(target.read_text(encoding="utf-8"), _OUTCOMES)[0], ["outcome 1", "3", "75.0%", "order A"])
 
     def test_a_sample_of_more_orders_than_may_run(self) -> None:
         script = self.script(callers=[[{"do": []}] * 4] * 4, events=[])
         self.assertEqual(view("--orders", "--sample", 2, "--seed", 0, script, "-o", self.folder)[0], 0)
-        self.assertIn("a sample of 2 of 63063000 orders", (self.folder / "s.orders.html").read_text(encoding="utf-8"))
+        self.assertIn("a sample of 2 of 63063000 orders", (self.folder / "s.sample.html").read_text(encoding="utf-8"))
 
     def test_a_script_that_is_refused(self) -> None:
         status, _, errors = view("--orders", self.script(events=[["deferred", 7]]), "-o", self.folder)

@@ -3,13 +3,13 @@
 from __future__ import annotations
 
 import base64
+import gc
 import hashlib
 import html.parser
 import random
 import re
 import time
 import unittest
-import zlib
 from pathlib import Path
 from typing import Dict, List, Optional, Set, Tuple
 from unittest import mock
@@ -17,8 +17,11 @@ from unittest import mock
 from deferreds.checkout import TOP
 from deferreds.view import texts
 from deferreds.view.left import LeftDeferred
-from deferreds.view.page import MOST_ROWS, Page
+from deferreds.view.page import Page
+from deferreds.view.pages import page_of as page_or_drawn
+from deferreds.view.pages import written_page
 from deferreds.view.run import Run, run_of_journal
+from deferreds.view.sizes import AT_A_TIME, MOST_ROWS, MOST_WRITTEN
 
 from . import samples
 
@@ -74,7 +77,7 @@ class Read(html.parser.HTMLParser):
 
 def page_of(run: Run, first: Optional[int] = None, last: Optional[int] = None) -> str:
     """The page of a run."""
-    return Page(run, first, last).html()
+    return written_page(run, first, last)
 
 
 def is_safe(page: str) -> bool:
@@ -144,45 +147,43 @@ class Escaping(unittest.TestCase):
         self.assertNotIn("http", read.policy)
 
 
-def blocks(page: str) -> List[str]:
-    """The charts that a page has beside the one that is shown."""
-    return [zlib.decompress(base64.b64decode(block)).decode() for block in re.findall("<pre class=block[^>]*>([^<]*)</pre>", page)]
+def windows(run: Run, most: int = AT_A_TIME) -> List[str]:
+    """The charts of a run, so many lines at a time."""
+    page = Page(run, most=most)
+    return ["".join(page.shown_in(lines).pieces()) for lines in page.windows]
 
 
-class Blocks(unittest.TestCase):
-    """The other lines of a long run are on the page too, compressed."""
+class Windows(unittest.TestCase):
+    """A long run is shown a window at a time."""
 
     def test_each_line_stands_once(self) -> None:
-        run = samples.long(12_000)
-        page = page_of(run)
-        lines = [int(line) for part in [page, *blocks(page)] for line in re.findall(r"<div class=(?:row|\"row f\") id=r(\d+)", part)]
+        run = samples.long(5_000)
+        lines = [int(line) for part in windows(run) for line in re.findall(r"<div class=(?:row|\"row f\") id=r(\d+)", part)]
         self.assertEqual(lines, list(range(1, len(run.fold.rows) + 1)))
 
     def test_they_are_what_a_page_of_those_lines_shows(self) -> None:
-        run = samples.long(12_000)
-        second = blocks(page_of(run))[0]
-        alone = page_of(run, 5_001, 10_000)
+        run = samples.long(5_000)
+        alone = page_of(run, AT_A_TIME + 1, 2 * AT_A_TIME)
         chart = alone[alone.index("<div class=head>") : alone.index("</div><p id=next")]
-        self.assertEqual(re.sub(r"<span data-r=\d+>(line&nbsp;\d+)</span>", r"\1", second), chart)
+        self.assertEqual(re.sub(r"<span data-r=\d+>(line&nbsp;\d+)</span>", r"\1", windows(run)[1]), chart)
 
-    def test_a_part_that_was_asked_for_has_none(self) -> None:
-        self.assertEqual(blocks(page_of(samples.long(12_000), 1, 5_000)), [])
+    def test_a_part_that_was_asked_for_is_one(self) -> None:
+        self.assertEqual(Page(samples.long(5_000), 1, 3_000).windows, [range(3_000)])
 
     def test_no_more_than_the_most(self) -> None:
-        with mock.patch("deferreds.view.page.MOST_LINES", 7_000):
-            page = page_of(samples.long(12_000))
-        self.assertEqual([block.count("<a class=n") for block in blocks(page)], [2_000])
-        self.assertNotIn("data-r=7001>", page)
+        with mock.patch("deferreds.view.sizes.MOST_LINES", 3_000):
+            found = windows(samples.long(5_000))
+        self.assertEqual([window.count("<a class=n") for window in found], [2_000, 1_000])
+        self.assertNotIn("data-r=3001>", "".join(found))
 
     def test_hostile_texts_are_texts_in_them(self) -> None:
-        with mock.patch("deferreds.view.page.MOST_ROWS", 20):
-            found = blocks(page_of(samples.hostile()))
+        found = windows(samples.hostile(), 20)
         self.assertGreater(len(found), 3)
-        for block in found:
-            self.assertTrue(is_safe(block))
-            self.assertEqual(set(texts._UNSEEN.findall(block)), set())
-        with mock.patch("deferreds.view.page.MOST_ROWS", 20), mock.patch("deferreds.view.markup.escaped", texts.Html):
-            self.assertFalse(all(map(is_safe, blocks(page_of(samples.hostile())))))
+        for window in found:
+            self.assertTrue(is_safe(window))
+            self.assertEqual(set(texts._UNSEEN.findall(window)), set())
+        with mock.patch("deferreds.view.markup.escaped", texts.Html):
+            self.assertFalse(all(map(is_safe, windows(samples.hostile(), 20))))
 
 
 class Links(unittest.TestCase):
@@ -208,18 +209,23 @@ class Sizes(unittest.TestCase):
 
     def test_five_thousand_lines(self) -> None:
         for run in (samples.long(MOST_ROWS), samples.wide(MOST_ROWS)):
-            self.assertLess(len(page_of(run).encode()), 3_000_000, run.title)
+            self.assertLess(len(page_of(run, 1, MOST_ROWS).encode()), 3_000_000, run.title)
 
     def test_twenty_thousand_lines(self) -> None:
-        page = page_of(samples.long(20_000))
-        self.assertEqual(page.count("<pre class=block"), 4)
-        self.assertLess(len(page.encode()), 4_000_000)
+        told = samples.long_text(20_000)
+        self.assertLess(len(page_or_drawn(*told, told.run()).encode()), 4_000_000)
+
+    def test_a_longer_run_s_page_draws_itself(self) -> None:
+        for lines, is_drawn in ((MOST_WRITTEN - 20, False), (MOST_WRITTEN + 20, True)):
+            told = samples.long_text(lines)
+            page = page_or_drawn(*told, told.run()).partition("<script>")[0]
+            self.assertEqual(("<pre id=run" in page, "<div id=chart>" in page), (is_drawn, not is_drawn), lines)
 
     def test_longer_runs_are_shown_in_part(self) -> None:
         run = samples.long(12_000)
         page = Page(run)
-        self.assertEqual(page.window, range(0, MOST_ROWS))
-        self.assertIn(f"lines 1 to 5000 of {len(run.fold.rows)}", page.html())
+        self.assertEqual(page.window, range(0, AT_A_TIME))
+        self.assertIn(f"lines 1 to 2000 of {len(run.fold.rows)}", "".join(page.pieces()))
         self.assertEqual(Page(run, 11_000).window, range(10_999, len(run.fold.rows)))
         self.assertEqual(Page(run, 90_000).window, range(len(run.fold.rows) - 1, len(run.fold.rows)))
         self.assertEqual(Page(run, 9, 8).window, range(8, 8))
@@ -232,10 +238,13 @@ class Sizes(unittest.TestCase):
         self.assertNotIn("unfired</title>", page)
 
     def test_cost_grows_with_the_lines(self) -> None:
+        gc.disable()  # as the command does
+        self.addCleanup(gc.enable)
         seconds = []
         for lines in (10_000, 40_000):
             begun = time.process_time()
-            page_of(samples.long(lines))
+            told = samples.long_text(lines)
+            page_or_drawn(*told, told.run())
             seconds.append(time.process_time() - begun)
         self.assertLess(seconds[1], 8 * seconds[0])
 

@@ -11,7 +11,7 @@ from deferreds.checkout import TOP
 from deferreds.view.compared import Compared
 from deferreds.view.compared_forms import ComparedPage
 from deferreds.view.inputs import Inputs, read_any
-from deferreds.view.page import Page
+from deferreds.view.pages import written_page
 from deferreds.view.run import Run
 from deferreds.view.terminal import Terminal
 
@@ -64,7 +64,7 @@ class Shown(unittest.TestCase):
 
     def test_the_report_has_the_answer_that_nobody_got(self) -> None:
         run = _run("lost_answer")
-        said = _text(Page(run).html())
+        said = _text(written_page(run))
         for text in (
             "clean: nothing is left",
             "1 to note",
@@ -107,7 +107,7 @@ class Followed(InBrowser):
     """From the report to the cause, by links alone."""
 
     def test_the_links_lead_from_the_report_to_what_it_asked_for(self) -> None:
-        self.path.write_text(Page(_run("lost_answer")).html(), encoding="utf-8")
+        self.path.write_text(written_page(_run("lost_answer")), encoding="utf-8")
         self.browser.open(self.path)
         self.browser.click(".report .note a[href^='#d=']")
         self.browser.settle()

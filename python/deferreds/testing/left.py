@@ -8,12 +8,10 @@ from typing import Dict, List, NamedTuple, Optional
 from ..twisted.recording.recorder import Recorder
 from ..twisted.recording.saying import Said
 from ..twisted.telling import Advance, Record, Thing
-from ..view.page import Page
-from ..view.places import SUFFIX as PLACES
-from ..view.places import read_places
+from ..view.pages import page_of
 from ..view.report import Finding, Kind, Severity
-from ..view.run import Run, run_of_journal
-from ..view.scripts import Script
+from ..view.run import Run, run_of
+from ..view.sources import PLACES, Source
 from ..view.terminal import Terminal
 
 _MOST_SHOWN = 3
@@ -55,14 +53,11 @@ def recording_of(recorder: Recorder, title: str) -> Recording:
     """The recording of a test that has ended. A run that a script can't say has a journal and a page alone."""
     said = Said(recorder)
     problem = _problem(said)
-    script = Script(said.script if problem is None else None)
-    journal = said.whole_output
-    run = run_of_journal(journal, title, script, False, said.begins)
-    if problem is not None:
-        run.problems.append((f"a script can't say this: {problem}. What is shown may lack it",))
-    places = said.places
-    run.places = read_places(places) if places is not None else run.places
-    files = {".journal": journal, ".html": Page(run).html()}
+    why = f"a script can't say this: {problem}. What is shown may lack it" if problem is not None else ""
+    places, journal = said.places, said.whole_output
+    source = Source(title, True, said.text if problem is None else "", places or "", "", False, said.begins, why)
+    run = run_of(source, journal)
+    files = {".journal": journal, ".html": page_of(source, journal, run)}
     if places is not None:
         files[PLACES] = places
     if problem is None:

@@ -35,17 +35,29 @@ class Axis:
         records.sort(key=lambda record: -sum(self._run.durations.of(record)[:2]))
         return sorted(records[:MOST], key=lambda record: record.number)
 
-    def pieces(self) -> Iterator[Html]:
+    @property
+    def is_there(self) -> bool:
+        """Whether time goes on."""
+        return self._end > 0 and len(self._run.fold.records) > 0
+
+    def pieces(self, with_table: bool) -> Iterator[Html]:
         """The axis, as a table that opens."""
-        if not self._end or not self._run.fold.records:
+        if not self.is_there:
             return
-        chosen, total = self._chosen(), len(self._run.fold.records)
-        few = f": the {len(chosen)} of {total} Deferreds that were unfired or waited longest" if len(chosen) < total else ""
-        yield Html(f"<details id=time><summary>Deferreds in proportion to time{few}</summary><table class=axis>")
+        total = len(self._run.fold.records)
+        few = f": the {MOST} of {total} Deferreds that were unfired or waited longest" if MOST < total else ""
+        yield Html(f"<details id=time><summary>Deferreds in proportion to time{few}</summary>")
+        if with_table:
+            yield from self.table()
+        yield Html("</details>")
+
+    def table(self) -> Iterator[Html]:
+        """What the axis shows when it is open."""
+        yield Html("<table class=axis>")
         yield Html(f"<tr><th>Deferred</th><th><svg width=100% height=16>{joined(self._marks())}</svg></th></tr>")
-        for record in chosen:
+        for record in self._chosen():
             yield self._row(record)
-        yield Html("</table></details>")
+        yield Html("</table>")
 
     def _at(self, time: int) -> str:
         """Where a time stands, from 0 to 100."""

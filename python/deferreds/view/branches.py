@@ -6,9 +6,10 @@ from typing import Dict, Iterator, List, Optional, Tuple
 
 from .left import At
 from .hanging import object_name
-from .phrases import OfDeferred, OfLine, OfScript, Part, Phrase, listed, several, words
+from .phrases import OfDeferred, OfLine, OfScript, Part, Phrase, listed, words
 from .records import Record
 from .run import Run
+from .sizes import several
 from .stories import MOST_BRANCHES, Does, Step
 
 #: how many firings without effect the head of a tree names

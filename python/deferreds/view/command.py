@@ -8,7 +8,7 @@ input. `--journal FILE` shows a journal with its outcomes, as `./deferreds`, `./
 it, and runs nothing; `--json FILE` shows what `./deferreds --json` has told. `--compare A B` shows two runs beside
 each other. `--batches BATCHES` runs a script with its posts in that order. `--orders` performs it in every order, and writes
 a page, `NAME.orders.html`, of what becomes of each Deferred in how many of them; `--orders --sample K --seed S` performs it in K
-orders, which S draws. FILE may be `-`, for standard input.
+orders, which S draws, and writes `NAME.sample.html`. FILE may be `-`, for standard input.
 
 Status 0: shown; 2: the script is refused, with what `./deferreds --why` says of it on standard error; 3, 4, 5, 7, 70: as for `./deferreds`, 4 also
 where standard output can't be written; 64: the words are wrong; 66: what is to be shown can't be read, or isn't what
@@ -18,33 +18,30 @@ it is given as; 73: the page can't be written. With several scripts it is the fi
 from __future__ import annotations
 
 import argparse
-import gc
+import io
 import os
 import sys
-import webbrowser
 from functools import partial
 from itertools import chain
 from pathlib import Path
-from typing import IO, Callable, Iterator, List, NoReturn, Optional, Set
+from typing import IO, TYPE_CHECKING, Callable, Iterator, List, NoReturn, Optional, Set
 
 from ..checkout import as_called, command_name
-from ..ending import ended, open_streams, say, writing
+from ..ending import say, writing
 from ..sampling import MOST_SEED
 from ..survey import MOST_ORDERS, ORDERS
 from .batches import NotBatches, parse_batches
-from .branches import found
-from .compared import Compared
-from .compared_forms import ComparedPage, text_lines
 from .inputs import NO_INPUT, NO_OUTPUT, STANDARD, USAGE, Failed, InOrders, Inputs, read_any
-from .orders_page import OrdersPage
-from .page import MOST_ROWS, Page
-from .run import Run
-from .terminal import Terminal
+from .long_pages import long_page, page_name
+from .sizes import said_of_parts
 from .texts import clipped, visible
-from .trace import SUFFIX, Trace
 
+# (what reads a run is imported where it is used: most of the time of a page that draws itself would go to that)
+if TYPE_CHECKING:
+    from .run import Run
 
-_ORDERS_SUFFIX = ".orders.html"
+#: what ends the names of traces, and of pages of every order or of a sample of them
+_TRACE_SUFFIX, _ORDERS_SUFFIX, _SAMPLE_SUFFIX = ".trace.json", ".orders.html", ".sample.html"
 
 
 class _Parser(argparse.ArgumentParser):
@@ -85,7 +82,7 @@ def _arguments(words: List[str]) -> argparse.Namespace:
     form.add_argument(
         "--trace",
         action="store_true",
-        help=f"write SCRIPT's name with `{SUFFIX}`: a trace of Chrome's, which Perfetto opens, in the place of the page",
+        help=f"write SCRIPT's name with `{_TRACE_SUFFIX}`: a trace of Chrome's, which Perfetto opens, in the place of the page",
     )
     source = parser.add_mutually_exclusive_group()
     source.add_argument(
@@ -232,12 +229,18 @@ def _targets(arguments: argparse.Namespace, inputs: List[Inputs]) -> Iterator[st
         if output and not is_folder:
             yield output
             continue
-        stem = "script" if one.main == STANDARD else Path(one.main).stem
-        ending = SUFFIX if arguments.trace else _ORDERS_SUFFIX if arguments.orders else ".html"
-        names = (f"{stem}{f'_{number}' if number > 1 else ''}{ending}" for number in range(1, len(inputs) + 1))
+        main, ending = "script" if one.main == STANDARD else one.main, _ending(arguments)
+        names = (page_name(main, f"{f'_{number}' if number > 1 else ''}{ending}") for number in range(1, len(inputs) + 1))
         name = next(name for name in names if name not in taken)
         taken.add(name)
         yield os.fspath(Path(output or "", name))
+
+
+def _ending(arguments: argparse.Namespace) -> str:
+    """What the name of a page or a trace ends with, in the place of that of its script."""
+    if arguments.orders:
+        return _SAMPLE_SUFFIX if arguments.sample is not None else _ORDERS_SUFFIX
+    return _TRACE_SUFFIX if arguments.trace else ".html"
 
 
 def _check_target(target: str, inputs: List[Inputs]) -> None:
@@ -257,22 +260,30 @@ def _is_same(one: str, other: str) -> bool:
 
 
 def _write(text: str, target: str) -> None:
+    """Writes a page or a trace."""
+    _write_bytes(text.encode("utf-8"), target)
+
+
+def _write_bytes(data: bytes, target: str) -> None:
     """Writes a page or a trace, and its folder where that isn't there."""
     if target == STANDARD:
         with writing():
-            sys.stdout.write(text)
+            sys.stdout.write(data.decode("utf-8"))
             sys.stdout.flush()
         return
     try:
         path = Path(target)
         path.parent.mkdir(parents=True, exist_ok=True)
-        path.write_text(text, encoding="utf-8")
+        path.write_bytes(data)
     except (OSError, ValueError) as error:
         why = error.strerror if isinstance(error, OSError) else "it is no name of a file"
         raise Failed(NO_OUTPUT, f"{target} can't be written: {why}") from None
 
 
 def _print_text(run: Run, asked: Optional[str]) -> None:
+    from .branches import found
+    from .terminal import Terminal
+
     color = sys.stdout.isatty() and not os.environ.get("NO_COLOR") and os.environ.get("TERM") != "dumb"
     terminal = Terminal(run, color)
     numbers = found(run, asked) if asked is not None else []
@@ -283,19 +294,25 @@ def _print_text(run: Run, asked: Optional[str]) -> None:
             print(line)
 
 
-def _show_page(run: Run, arguments: argparse.Namespace, target: str) -> None:
-    page = Page(run, arguments.first, arguments.last)
-    _write(page.html(), target)
-    part = ""
-    if len(page.window) < len(page.there):
-        part = f", {MOST_ROWS} at a time" + (f", up to line {page.there.stop}" if page.there.stop < len(run.fold.rows) else "")
-    elif len(page.window) < len(run.fold.rows):
-        part = f", of which the chart shows {page.window.start + 1} to {page.window.stop}"
-    _say_written(target, run, part)
+def _show_page(one: Inputs, arguments: argparse.Namespace, target: str) -> None:
+    told, asked = one.told(), (arguments.first, arguments.last)
+    drawn = long_page(told.source, io.BytesIO(told.data), *asked) if not told.source.is_journal else None
+    if drawn is not None:
+        _write_bytes(drawn.page, target)
+        lines, counts = drawn.size.lines, drawn.size.counts(told.source.events, told.source.tick)
+    else:
+        from .pages import page_of
+
+        run = told.run()
+        _write(page_of(told.source, told.text, run, *asked), target)
+        lines, counts = len(run.fold.rows), run.counts
+    _say_written(target, counts, said_of_parts(lines, *asked))
     _open(arguments, target)
 
 
 def _show_orders(script: InOrders, arguments: argparse.Namespace, target: str) -> None:
+    from .orders_page import OrdersPage
+
     page = OrdersPage(script.title, script.orders, script.run)
     _write(page.html(), target)
     _say(f"{_shown_target(target)}: {page.counts}")
@@ -303,13 +320,15 @@ def _show_orders(script: InOrders, arguments: argparse.Namespace, target: str) -
 
 
 def _write_trace(run: Run, target: str) -> None:
+    from .trace import Trace
+
     trace = Trace(run)
     _write(trace.text(), target)
-    _say_written(target, run, "" if trace.clock.is_even else "; its times are too long to stand in proportion")
+    _say_written(target, run.counts, "" if trace.clock.is_even else "; its times are too long to stand in proportion")
 
 
-def _say_written(target: str, run: Run, more: str) -> None:
-    _say(f"{_shown_target(target)}: {run.counts}{more}")
+def _say_written(target: str, counts: str, more: str) -> None:
+    _say(f"{_shown_target(target)}: {counts}{more}")
 
 
 def _shown_target(target: str) -> str:
@@ -319,6 +338,8 @@ def _shown_target(target: str) -> str:
 def _open(arguments: argparse.Namespace, target: str) -> None:
     """Opens the page in the browser, where that is asked for."""
     if arguments.open:
+        import webbrowser
+
         webbrowser.open(Path(target).resolve().as_uri())
 
 
@@ -356,11 +377,14 @@ def _show(one: Inputs, arguments: argparse.Namespace, inputs: List[Inputs], targ
         return _show_orders(InOrders(one, _orders_words(arguments)), arguments, target)
     if arguments.trace:
         return _write_trace(one.run(), target)
-    return _show_page(one.run(), arguments, target)
+    return _show_page(one, arguments, target)
 
 
 def _compare(arguments: argparse.Namespace) -> None:
     """Shows two runs beside each other."""
+    from .compared import Compared
+    from .compared_forms import ComparedPage, text_lines
+
     inputs = [Inputs(name) for name in arguments.compare]
     target = arguments.output
     if target is None or _is_folder(target):
@@ -378,9 +402,3 @@ def _compare(arguments: argparse.Namespace) -> None:
     _write(ComparedPage(compared).html(), target)
     _say(f"{_shown_target(target)}: {compared.verdict}")
     _open(arguments, target)
-
-
-if __name__ == "__main__":
-    open_streams()
-    gc.disable()  # what a run is made of stays until the end, and looking through it again and again takes an eighth of the time
-    sys.exit(ended(lambda: main(sys.argv[1:]), command_name("view")))

@@ -5,9 +5,9 @@ from __future__ import annotations
 import re
 from typing import Dict, Iterator, List, NamedTuple, Optional, Tuple
 
-from .phrases import several
 from .records import By, Record, Row
 from .run import Run
+from .sizes import several
 
 #: a Deferred of either run: its name, and which one of that name it is. Its number is another where one more was made before it
 Key = Tuple[str, int]

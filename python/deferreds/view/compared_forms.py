@@ -5,9 +5,9 @@ from __future__ import annotations
 from typing import Iterator, List, Optional
 
 from .compared import Compared, Differing, Side
+from .document import asset, policy_hash
 from .lines import WORDS
 from .markup import isolated
-from .page import asset, policy_hash
 from .records import Record, Row, ended
 from .report import Severity
 from .shapes import CLASSES, SIGNS

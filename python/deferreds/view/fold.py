@@ -10,8 +10,9 @@ from typing import Callable, Dict, List, Optional, Sequence
 from .causes import Causes
 from .lines import NULL, End, Entry
 from .nesting import LAST_POSTS, Nesting, Place
-from .phrases import OfDeferred, OfEvent, OfLine, OfScript, Phrase, listed, several
-from .records import Actor, Arrow, ArrowKind, Bracket, BracketKind, By, GotNull, Made, Record, Row
+from .phrases import OfDeferred, OfEvent, OfLine, OfScript, Phrase, listed
+from .records import Actor, ArrowKind, Bracket, BracketKind, By, GotNull, Made, Record, Row
+from .sizes import several
 from .world import Call, Job, Lock, Loop, Phase, Queue, Task, Tick, Wait, World
 
 _FIRINGS = frozenset({"fire", "refuse", "swallow"})
@@ -139,15 +140,14 @@ class Fold:
         if record is None:
             record = self.records[number] = Record(number, "-", row.place)
             self._unmade.append(number)
-        if number not in row.names:
-            row.names.append(number)
+        row.name(number)
         record.last = row.place
         return record
 
     def _arrow(self, row: Row, kind: ArrowKind, target: int) -> None:
         """An arrow from who acts."""
         source = row.actor.number if row.actor.by is By.SIDE else None
-        row.arrows.append(Arrow(kind, source, target))
+        row.draw(kind, source, target)
 
     def _link(self, start: int, row: Row, kind: BracketKind) -> None:
         self.brackets.append(Bracket(start, row.place, kind))
@@ -205,13 +205,14 @@ class Fold:
     def _new(self, row: Row, entry: Entry, before: Optional[Row]) -> None:
         number = entry.deferred
         self.records[number] = Record(number, entry.name, row.place)
-        row.names.append(number)
+        row.name(number)
 
     def _name(self, row: Row, entry: Entry, before: Optional[Row]) -> None:
         self._touch(row, entry.deferred).names.append(entry.name)
 
     def _add(self, row: Row, entry: Entry, before: Optional[Row]) -> None:
-        self._touch(row, entry.deferred).pairs += 1
+        record = self._touch(row, entry.deferred)
+        record.pairs += 1
 
     def _fire(self, row: Row, entry: Entry, before: Optional[Row]) -> None:
         record = self._fires(row, before, ArrowKind.FIRE)
@@ -263,7 +264,7 @@ class Fold:
 
     def _take(self, row: Row, entry: Entry, before: Optional[Row]) -> None:
         taker, giver = self._touch(row, entry.deferred), self._touch(row, entry.other)
-        row.arrows.append(Arrow(ArrowKind.HAND, giver.number, taker.number))
+        row.draw(ArrowKind.HAND, giver.number, taker.number)
         self._hand_over(row, taker, giver)
 
     def _wait(self, row: Row, entry: Entry, before: Optional[Row]) -> None:
@@ -271,11 +272,11 @@ class Fold:
         self._touch(row, entry.other)
         record.waits, record.waits_at = entry.other, row.place
         self._reached.clear()
-        row.arrows.append(Arrow(ArrowKind.WAIT, entry.deferred, entry.other))
+        row.draw(ArrowKind.WAIT, entry.deferred, entry.other)
 
     def _hand(self, row: Row, entry: Entry, before: Optional[Row]) -> None:
         taker, giver = self._touch(row, entry.deferred), self._touch(row, entry.other)
-        row.arrows.append(Arrow(ArrowKind.HAND, giver.number, taker.number))
+        row.draw(ArrowKind.HAND, giver.number, taker.number)
         taker.waits = None
         self._hand_over(row, taker, giver)
         self._reached.clear()
@@ -297,7 +298,8 @@ class Fold:
         self._arrow(row, ArrowKind.PAUSE, record.number)
 
     def _unpause(self, row: Row, entry: Entry, before: Optional[Row]) -> None:
-        self._touch(row, entry.deferred).pauses -= 1
+        record = self._touch(row, entry.deferred)
+        record.pauses -= 1
         self._arrow(row, ArrowKind.PAUSE, entry.deferred)
 
     def _cancel(self, row: Row, entry: Entry, before: Optional[Row]) -> None:
@@ -310,7 +312,7 @@ class Fold:
             return
         record = self._touch(row, reached)
         if reached != number:
-            row.arrows.append(Arrow(ArrowKind.CANCEL, number, reached))
+            row.draw(ArrowKind.CANCEL, number, reached)
             row.cause = ("reaches ", OfDeferred(reached))
         if record.fired is not None:
             row.cause = (OfDeferred(reached), " is fired already: nothing happens")
@@ -323,7 +325,7 @@ class Fold:
         record.awaits, record.awaits_at = entry.other, row.place
         if record.made is Made.ACTION:
             record.made = Made.INLINE
-        row.arrows.append(Arrow(ArrowKind.WAIT, entry.deferred, entry.other))
+        row.draw(ArrowKind.WAIT, entry.deferred, entry.other)
 
     def _unhandled(self, row: Row, entry: Entry, before: Optional[Row]) -> None:
         self.unhandled.append(row)

@@ -8,7 +8,8 @@ from typing import Any, Dict, List, NamedTuple, Optional, Sequence, Tuple, Union
 
 from .fold import Fold
 from .left import At, Hang, Left, LeftDeferred, LeftLoop, LeftTask
-from .phrases import OfDeferred, OfLine, Phrase, listed, several, words
+from .phrases import OfDeferred, OfLine, Phrase, listed, words
+from .sizes import several
 from .world import Shelf
 
 

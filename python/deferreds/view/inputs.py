@@ -5,24 +5,24 @@ from __future__ import annotations
 
 import json
 import os
-import subprocess
 import sys
 from pathlib import Path
-from typing import NamedTuple, Optional, Sequence, Tuple
+from typing import TYPE_CHECKING, NamedTuple, Optional, Sequence, Tuple
 
 from ..checkout import as_called, command_name
 from ..ending import say
 from ..program import NOT_RUN, NotRun, found
 from ..survey import ONE_OUTCOME, SEVERAL_OUTCOMES, TOO_MANY
 from .batches import Batches, text_of
-from .facts import NotFacts, read_facts
-from .lines import WORDS
-from .orders import NotOrders, Orders, read_orders
-from .places import NOWHERE, SUFFIX, NotPlaces, Places, read_places
+from .places import NotPlaces, read_places
+from .recordings import tick_beside
 from .refusals import read_refusal
-from .run import Run, run_of_facts, run_of_journal
-from .scripts import Script
-from .units import tick_beside
+from .sources import PLACES, Source
+
+# (what reads a run is imported where it is used: most of the time of a page that draws itself would go to that)
+if TYPE_CHECKING:
+    from .orders import Orders
+    from .run import Run
 
 #: the name of standard input, and of standard output
 STANDARD = "-"
@@ -65,44 +65,78 @@ class Inputs(NamedTuple):
         """The one that names the run."""
         return self.journal or self.facts or self.script or STANDARD
 
-    def run(self) -> Run:
-        """The run. Raises Failed."""
-        run = self._run()
-        run.places = self.read_places()
-        run.tick = self.tick
-        return run
-
     @property
     def tick(self) -> str:
         """How long a tick was where the run was recorded, or an empty text."""
         return tick_beside(self.main) or tick_beside(self.script or STANDARD)
 
-    def _run(self) -> Run:
+    def told(self) -> "Told":
+        """What tells of the run: it is read, or the script is run. Raises Failed."""
+        told = self._told()
+        return told._replace(source=told.source._replace(places=self.read_places(), tick=self.tick))
+
+    def run(self) -> Run:
+        """The run. Raises Failed."""
+        return self.told().run()
+
+    def _told(self) -> "Told":
         if self.journal is None and self.facts is None:
             name = self.script or STANDARD
             return run_script(_read(name), name, self.batches)
-        script = _script(_read(self.script)) if self.script is not None else Script()
-        if self.facts is not None:
-            return _facts(_read(self.facts), self.facts, script)
-        return _journal(_text(_read(self.main), self.main), self.main, script)
+        script = _script(_read(self.script)) if self.script is not None else ""
+        return Told(Source(_title(self.main), self.journal is not None, script), _read(self.main), self.main)
 
-    def read_places(self) -> Places:
-        """The places that are given, or that stand beside the script or the journal. What is wrong with the latter is a warning."""
+    def read_places(self) -> str:
+        """The places that are given, or that stand beside the script or the journal, as JSON. What is wrong with the latter is a warning."""
         if self.places:
+            text = _text(_read(self.places), self.places)
             try:
-                return read_places(_text(_read(self.places), self.places))
+                read_places(text)
             except NotPlaces as why:
                 raise Failed(NO_INPUT, f"{self.places} doesn't tell places: {why}") from None
+            return text
         source = self.script or self.main
-        path = Path(source).with_suffix(SUFFIX) if source != STANDARD else None
+        path = Path(source).with_suffix(PLACES) if source != STANDARD else None
         if path is None or not path.is_file():
-            return NOWHERE
+            return ""
         try:
-            return read_places(path.read_text(encoding="utf-8"))
+            text = path.read_text(encoding="utf-8")
+            read_places(text)
+            return text
         except (OSError, UnicodeDecodeError, NotPlaces) as why:
             reason = why.strerror if isinstance(why, OSError) else why
             say(f"{command_name('view')}: {path} isn't used, since it doesn't tell places: {reason}")
-            return NOWHERE
+            return ""
+
+
+class Told(NamedTuple):
+    """What tells of a run: what is known of it, the bytes of the text, and the name of the file."""
+
+    source: Source
+    data: bytes
+    name: str
+
+    @property
+    def text(self) -> str:
+        """The text. Raises Failed."""
+        return _text(self.data, self.name)
+
+    def run(self) -> Run:
+        """The run. A text of which most lines aren't known is no journal, and a run of no line has nothing to show. Raises Failed."""
+        from .facts import NotFacts
+        from .run import run_of
+
+        is_given = self.source.is_journal and self.source.stopped is None
+        if is_given and not self.text.strip():
+            raise Failed(NO_INPUT, f"{shown_name(self.name)} is empty: a journal has at least a line")
+        try:
+            run = run_of(self.source, self.text)
+        except NotFacts as error:
+            raise Failed(NO_INPUT, _with_hint(f"{shown_name(self.name)}: {error}", self.text)) from None
+        if is_given and 2 * run.unknown > run.read:
+            why = "no line of it is known" if run.unknown == run.read else f"{run.unknown} of its {run.read} lines aren't known"
+            raise Failed(NO_INPUT, _with_hint(f"{shown_name(self.name)} isn't a journal: {why}", self.text))
+        return run
 
 
 class InOrders:
@@ -117,14 +151,15 @@ class InOrders:
 
     def run(self, batches: Batches, label: str) -> Run:
         """The run in this order, which the label tells from others. Raises Failed."""
-        run = run_script(self._data, self._name, text_of(batches))
-        run.title = f"{self.title}, {label}"
-        run.places, run.tick = self._places, self._tick
-        return run
+        told = run_script(self._data, self._name, text_of(batches))
+        source = told.source._replace(title=f"{self.title}, {label}", places=self._places, tick=self._tick)
+        return told._replace(source=source).run()
 
 
 def _survey(data: bytes, name: str, words: Sequence[str]) -> Orders:
     """Has `./deferreds` perform a script in the orders that these words ask for, and reads what it prints."""
+    from .orders import NotOrders, read_orders
+
     status, told = _deferreds(data, "--json", "--orders", *words)
     if status == TOO_MANY:  # it has said so, with their number
         raise Failed(status)
@@ -142,22 +177,24 @@ def read_any(name: str, batches: Optional[str] = None) -> Run:
     """The run of a script, in these batches if they are given, or else of a journal or of facts, whichever the file is."""
     data = _read(name)
     text = data.decode("utf-8", "replace")
-    is_script = text.lstrip().startswith("{") and not _begins_facts(text)
+    is_script = _bare(text).startswith("{") and not _begins_facts(text)
     if batches is not None and not is_script:
         raise Failed(USAGE, f"{shown_name(name)} isn't a script, and --batches is for scripts")
     if is_script:
-        run = run_script(data, name, batches)
-    elif text.lstrip().startswith("{"):
-        run = _facts(data, name, Script())
+        told = run_script(data, name, batches)
     else:
-        run = _journal(_text(data, name), name, Script())
+        told = Told(Source(_title(name), not _bare(text).startswith("{")), data, name)
     beside = Inputs(name)
-    run.places, run.tick = beside.read_places(), beside.tick
-    return run
+    return told._replace(source=told.source._replace(places=beside.read_places(), tick=beside.tick)).run()
+
+
+def _bare(text: str) -> str:
+    """A text from its first sign on: a byte order mark is none, which the program refuses."""
+    return text.lstrip("\ufeff \t\r\n")
 
 
 def _begins_facts(text: str) -> bool:
-    return '"type":"start"' in text.lstrip().partition("\n")[0].replace(" ", "")
+    return '"type":"start"' in _bare(text).partition("\n")[0].replace(" ", "")
 
 
 def shown_name(name: str) -> str:
@@ -186,17 +223,19 @@ def _text(data: bytes, name: str) -> str:
         raise Failed(NO_INPUT, f"{shown_name(name)} isn't UTF-8") from None
 
 
-def _script(data: bytes) -> Script:
-    """The script, as far as it can be read: the program says whether it is one."""
+def _script(data: bytes) -> str:
+    """The text of a script, as JSON is read from bytes; an empty one if it can't be read."""
     try:
-        return Script(json.loads(data))
-    except (ValueError, RecursionError):
-        return Script()
+        return data.decode(json.detect_encoding(data), "surrogatepass")
+    except UnicodeDecodeError:
+        return ""
 
 
 def looks_like(text: str) -> str:
     """What a text looks like that isn't what it was given as; an empty text where it looks like nothing that is known."""
-    begins, _, _ = text.lstrip().partition("\n")
+    from .lines import WORDS
+
+    begins, _, _ = _bare(text).partition("\n")
     if begins.startswith("{"):
         return as_called(_FACTS if _begins_facts(text) else _SCRIPT)
     return _JOURNAL if begins.partition(" ")[0] in WORDS else ""
@@ -207,27 +246,8 @@ def _with_hint(why: str, text: str) -> str:
     return f"{why}; {hint}" if hint else why
 
 
-def _journal(text: str, name: str, script: Script) -> Run:
-    """The run of a journal. A text of which most lines aren't known is none, and a run of no line has nothing to show."""
-    if not text.strip():
-        raise Failed(NO_INPUT, f"{shown_name(name)} is empty: a journal has at least a line")
-    run = run_of_journal(text, _title(name), script)
-    if 2 * run.unknown > run.read:
-        why = "no line of it is known" if run.unknown == run.read else f"{run.unknown} of its {run.read} lines aren't known"
-        raise Failed(NO_INPUT, _with_hint(f"{shown_name(name)} isn't a journal: {why}", text))
-    return run
-
-
-def _facts(data: bytes, name: str, script: Script) -> Run:
-    text = _text(data, name)
-    try:
-        return run_of_facts(read_facts(text), script, _title(name))
-    except NotFacts as error:
-        raise Failed(NO_INPUT, _with_hint(f"{shown_name(name)}: {error}", text)) from None
-
-
-def run_script(data: bytes, name: str, batches: Optional[str] = None) -> Run:
-    """Runs a script, in these batches if they are given, and reads what `./deferreds --json` prints of the run; the journal alone,
+def run_script(data: bytes, name: str, batches: Optional[str] = None) -> Told:
+    """Runs a script, in these batches if they are given. It is told by what `./deferreds --json` prints of the run; the journal alone,
     where that word isn't known."""
     words = () if batches is None else ("--batches", batches)
     status, told = _deferreds(data, "--json", *words)
@@ -238,15 +258,13 @@ def run_script(data: bytes, name: str, batches: Optional[str] = None) -> Run:
         raise Failed(status)
     if status not in (0, _STOPPED):
         raise Failed(status, _why_not(status, data, name))
-    script, title = _script(data), _title(name)
-    if is_exact:
-        return _facts(told, name, script)
-    return run_of_journal(_text(told, name), title, script, status == _STOPPED)
+    source = Source(_title(name), not is_exact, _script(data), stopped=None if is_exact else status == _STOPPED)
+    return Told(source, told, name)
 
 
 def _why_not(status: int, data: bytes, name: str) -> str:
     """Why a script was not run to its end: what `./deferreds --why` says, where it is refused."""
-    refusal = read_refusal(_deferreds(data, "--why", errors=subprocess.DEVNULL)[1]) if status == _REFUSED else None
+    refusal = read_refusal(_deferreds(data, "--why", is_quiet=True)[1]) if status == _REFUSED else None
     if refusal is None:
         return f"{shown_name(name)} was not run to its end"
     hint = "" if _is_json(data) else looks_like(data.decode("utf-8", "replace"))
@@ -263,8 +281,11 @@ def _is_json(data: bytes) -> bool:
         return False
 
 
-def _deferreds(data: bytes, *words: str, errors: Optional[int] = None) -> Tuple[int, bytes]:
-    """The status and the output of `./deferreds` with these words; what it says beside is shown, or goes to `errors`."""
+def _deferreds(data: bytes, *words: str, is_quiet: bool = False) -> Tuple[int, bytes]:
+    """The status and the output of `./deferreds` with these words; what it says beside is shown, if it isn't to be quiet."""
+    import subprocess
+
+    errors = subprocess.DEVNULL if is_quiet else None
     try:
         program = os.fspath(found())
         ran = subprocess.run([program, *words], input=data, stdout=subprocess.PIPE, stderr=errors, check=False)

@@ -131,7 +131,9 @@ class Lanes:
         self._stay = len(shown) <= _STAY
         self.many = len(shown) * rows.total > _MANY * CHUNK
         self.lanes: Dict[int, Lane] = {}
+        #: of each column its lanes, and where these begin
         self._columns: List[List[Lane]] = []
+        self._tops: List[List[int]] = []
         free: List[int] = []
         for record in shown:
             top = rows.slot(max(record.row, rows.window.start))
@@ -143,6 +145,7 @@ class Lanes:
             quiet = rows.slot(record.last) + 1 if record.last >= rows.window.start else 0
             self.lanes[record.number] = Lane(record, column, top, bottom, min(quiet, rows.total))
             self._columns[column].append(self.lanes[record.number])
+            self._tops[column].append(top)
         self.columns = max(1, len(free))
         widest = max((len(str(number)) for number in self.lanes), default=1)
         self.width = _width(self.columns, widest)
@@ -162,6 +165,7 @@ class Lanes:
         if column == len(free):
             free.append(0)
             self._columns.append([])
+            self._tops.append([])
         return column
 
     def x(self, number: Optional[int]) -> Optional[int]:
@@ -179,7 +183,7 @@ class Lanes:
     def _is_taken(self, column: int, slot: int) -> bool:
         """Whether the column has a lane in this slot."""
         lanes = self._columns[column]
-        place = bisect.bisect_right([lane.top for lane in lanes], slot) - 1
+        place = bisect.bisect_right(self._tops[column], slot) - 1
         return place >= 0 and lanes[place].bottom >= slot
 
     @property

@@ -7,7 +7,7 @@ import json
 from typing import Any, Dict, Iterator, List, NamedTuple, Optional, Tuple
 
 from .batches import Batches, NotBatches, read_batches
-from .phrases import several
+from .sizes import several
 
 Json = Dict[str, Any]
 

@@ -15,13 +15,14 @@ from ..checkout import as_called
 from .batches import Batches, text_of
 from .compared import Compared
 from .compared_forms import ComparedPage
+from .document import FRAME_BASE, asset, policy_hash, script_of, style_of, written
 from .markup import isolated
 from .orders import Came, Endings, Orders, Way
-from .page import FRAME_BASE, MOST_ROWS, Page, asset, policy_hash, script_of_page
-from .phrases import several
+from .page import Page
 from .records import ended
 from .run import Run
 from .shapes import CLASSES, SIGNS
+from .sizes import MOST_ROWS, several
 from .texts import Html, escaped, framed, joined, shortened
 
 #: how many charts the page has at most, and how many lines these have together
@@ -65,7 +66,7 @@ class OrdersPage:
 
     def html(self) -> Html:
         """The whole page."""
-        style, script = asset("style.css") + asset("orders.css"), script_of_page(_SCRIPTS)
+        style, script = asset("style.css") + asset("orders.css"), script_of(_SCRIPTS)
         return joined(
             [
                 Html('<!doctype html><html lang=en><head><meta charset=utf-8><meta name=viewport content="width=device-width">'),
@@ -82,8 +83,8 @@ class OrdersPage:
 
     def _policy(self, style: str, script: str) -> str:
         """The policy of the page, which holds for its frames, too."""
-        styles = dict.fromkeys([style, *(one.page.style for one in self.shown)])
-        scripts = [script, script_of_page()]
+        styles = dict.fromkeys([style, *(style_of(one.page.rules) for one in self.shown)])
+        scripts = [script, script_of()]
         return (
             f"default-src 'none'; style-src {_hashes(list(styles))}; script-src {_hashes(scripts)}; base-uri {FRAME_BASE}; form-action 'none'"
         )
@@ -205,7 +206,7 @@ class OrdersPage:
         return Html(
             f"<section class=order id=order-{one.letter} data-o={one.letter}><h2>Order {one.letter}</h2><p class=facts>{self._firsts(one)}</p>"
             f"<details class=order><summary>the order in which posts are taken</summary><code>{escaped(_batches_word(one.batches))}</code></details>"
-            f'<iframe title="The chart of order {one.letter}" height={one.height} srcdoc="{framed(one.page.in_frame())}"></iframe></section>'
+            f'<iframe title="The chart of order {one.letter}" height={one.height} srcdoc="{framed(written(one.run.title, one.page.rules, one.page.whole(), in_frame=True))}"></iframe></section>'
         )
 
     def _firsts(self, shown: Shown) -> Html:

@@ -1,38 +1,25 @@
-"""The page: verdict, report, outcomes, chart, in one file that asks for nothing."""
+"""What a page of a run shows: verdict, report, outcomes, chart."""
 
 from __future__ import annotations
 
-import base64
-import hashlib
-from pathlib import Path
-from typing import Dict, Iterator, List, Optional, Sequence
+from typing import Dict, Iterator, List, Optional, Tuple
 
 from .axis import Axis
 from .events import Events
 from .markup import isolated, placed
-from .phrases import OfDeferred, several
+from .phrases import OfDeferred
 from .records import ArrowKind, Ended, Look, Record, State, ended
 from .report import Finding, Kind, Severity
 from .run import Run
 from .shapes import CLASSES, SAYS, SIGNS, arrow, bar
+from .sizes import AT_A_TIME, parts_of, several
 from .texts import Html, escaped, joined, shortened
 from .units import seconds_of
 from .windows import Window
 
-#: how many rows a chart has at most
-MOST_ROWS = 5_000
-
-#: how many lines a page has at most, in windows of so many rows
-MOST_LINES = 100_000
-
-#: the address of a page that is the text of a frame, and how a content security policy allows it as the base of links
-FRAME, FRAME_BASE = "about:srcdoc", "about:"
-
-_SCRIPTS = ("rows.js", "focus.js", "folds.js", "filter.js", "whole.js", "stories.js", "windows.js")
 #: up to which width of the screen lanes are folded away; `style.css` has the same number
 NARROW = 600
 
-_FOLDER = Path(__file__).resolve().parent
 _FEW_FINDINGS, _MOST_FINDINGS = 8, 200
 _FEW_OUTCOMES, _MOST_ODD, _MOST_OK = 16, 200, 2_000
 _MOST_TEXT, _MOST_VALUE, _LEAST_VALUE, _MOST_DETAILS = 300, 200, 60, 8
@@ -65,64 +52,66 @@ _LEGEND_ARROWS = (
 class Page:
     """The page of a run, with the rows of a window."""
 
-    def __init__(self, run: Run, first: Optional[int] = None, last: Optional[int] = None) -> None:
+    def __init__(self, run: Run, first: Optional[int] = None, last: Optional[int] = None, most: int = AT_A_TIME) -> None:
         self._run = run
-        lines = len(run.fold.rows)
-        self.window = _window(lines, first, last)
-        #: the lines that the page has, of which its script shows a part at a time: all, where nobody has asked for a part
-        self.there = range(min(lines, MOST_LINES)) if first is None and last is None else self.window
+        #: how many lines a window has at most
+        self.most = most
+        #: the lines that the page shows first, and those that it has, of which it shows a window at a time
+        self.window, self.there = parts_of(len(run.fold.rows), first, last, most)
         self._events = Events(run.fold, run.script, run.places)
         self._shown = Window(run, self._events, self.window, self.there)
         self._rows, self._markup = self._shown.rows, self._shown.markup
         self._shown_outcomes()
-
-    def html(self) -> Html:
-        """The whole page."""
-        return self._html("'none'", "")
-
-    def in_frame(self) -> Html:
-        """The whole page as the text of a frame of another page: its links lead to places within the frame."""
-        return self._html(FRAME_BASE, f"<base href={FRAME}>")
-
-    def _html(self, bases: str, base: str) -> Html:
-        style, script = self.style, script_of_page()
-        policy = f"default-src 'none'; style-src '{policy_hash(style)}'; script-src '{policy_hash(script)}'; base-uri {bases}; form-action 'none'"
-        title = escaped(self._run.title)
-        return joined(
-            [
-                Html(
-                    '<!doctype html><html lang=en><head><meta charset=utf-8><meta name=viewport content="width=device-width">'
-                ),
-                Html(f'<meta http-equiv=Content-Security-Policy content="{policy}">{base}'),
-                Html(f"<title>{title}</title><style>{style}</style></head><body><main>"),
-                *self._verdict(title),
-                *self._report(),
-                *self._outcomes(),
-                Html("<section id=tree hidden></section>"),
-                *Axis(self._run, self._markup).pieces(),
-                *self._above_chart(),
-                Html("</main><div id=chart><div id=column hidden></div>"),
-                *self._shown.pieces(),
-                Html("</div><p id=next hidden></p>"),
-                *self._stories(),
-                *self._blocks(),
-                Html(
-                    "<input id=find type=search placeholder=find aria-label=find hidden>"
-                    "<div id=whole class=mono hidden></div>"
-                    f"<div id=focus role=status hidden></div><script>{script}</script></body></html>\n"
-                ),
-            ]
-        )
+        self._axis = Axis(run, self._markup)
+        #: whether what isn't open at first comes later
+        self._later = True
 
     @property
-    def style(self) -> str:
-        """The style of the page."""
+    def windows(self) -> List[range]:
+        """The lines that the chart shows, window by window."""
+        if len(self.there) == len(self.window):
+            return [self.window]
+        return [range(start, min(self.there.stop, start + self.most)) for start in range(0, self.there.stop, self.most)]
+
+    def shown_in(self, lines: range) -> Window:
+        """The chart of one of these windows."""
+        window = Window(self._run, self._events, lines, self.there)
+        window.markup.outcomes = self._markup.outcomes
+        return window
+
+    def whole(self) -> Iterator[Html]:
+        """What stands on a page that is written as it is shown."""
+        self._later = False
+        yield from self.pieces()
+        yield Html(f'<pre id=stories hidden data-tick="{self.tick:g}">')
+        yield Html("\n".join(escaped(self.story(number)) for number in self.numbers))
+        yield Html("</pre>")
+
+    def pieces(self) -> Iterator[Html]:
+        """What is shown on a page that draws itself, which adds `later` then, and asks for the stories when it needs them."""
+        yield Html("<main>")
+        yield from self._verdict(escaped(self._run.title))
+        yield from self._report()
+        yield from self._outcomes()
+        yield Html("<section id=tree hidden></section>")
+        yield from self._axis.pieces(not self._later)
+        yield from self._above_chart()
+        yield Html("</main><div id=chart><div id=column hidden></div>")
+        yield from self._shown.pieces()
+        yield Html("</div><p id=next hidden></p>")
+        yield Html("<input id=find type=search placeholder=find aria-label=find hidden><div id=whole class=mono hidden></div>")
+        yield Html("<div id=focus role=status hidden></div>")
+
+    @property
+    def rules(self) -> List[str]:
+        """The rules of style by which the page is as wide as its chart."""
         shown, paper = self._shown, max(_PAPER, self._shown.width + 48)
-        return (
-            f"{asset('style.css')}#chart{{width:{shown.width}px;--side:min({shown.side}px,62vw)}}#last{{height:{shown.rest}px}}"
-            f"@media screen and (max-width:{NARROW}px){{body:not(.lanes) #chart{{width:100%;--side:100vw}}}}"
-            f"@page{{size:{paper}px {int(paper / 1.414)}px;margin:24px}}"
-        )
+        return [
+            f"#chart{{width:{shown.width}px;--side:min({shown.side}px,62vw)}}",
+            f"#last{{height:{shown.rest}px}}",
+            f"@media screen and (max-width:{NARROW}px){{body:not(.lanes) #chart{{width:100%;--side:100vw}}}}",
+            f"@page{{size:{paper}px {int(paper / 1.414)}px;margin:24px}}",
+        ]
 
     # above the chart
 
@@ -212,9 +201,8 @@ class Page:
         if self._good:
             shown = self._good[:_MOST_OK]
             of = f", {len(shown)} of them here" if len(shown) < len(self._good) else ""
-            yield Html(
-                f"<details><summary>{len(self._good)} that ended with a value{of}</summary>{self._table(shown)}</details>"
-            )
+            table = Html("") if self._later else self._table(shown)
+            yield Html(f"<details id=good><summary>{len(self._good)} that ended with a value{of}</summary>{table}</details>")
         if not self._run.fold.records:
             yield Html("<p class=facts>No Deferred was made.</p>")
 
@@ -289,41 +277,23 @@ class Page:
                 "<span class=facts>Report and outcomes are of the whole run.</span></p><p id=windows hidden></p>"
             )
 
-    def _blocks(self) -> Iterator[Html]:
-        """The lines of a long run that the page's script shows, and that no other row of the page has."""
-        for start in range(MOST_ROWS, self.there.stop, MOST_ROWS) if len(self.there) > len(self.window) else ():
-            window = Window(self._run, self._events, range(start, min(self.there.stop, start + MOST_ROWS)), self.there)
-            window.markup.outcomes = self._markup.outcomes
-            yield window.packed()
+    @property
+    def tick(self) -> float:
+        """How many seconds a tick was where the run was recorded, else 0."""
+        return seconds_of(1, self._run.tick)
 
-    def _stories(self) -> Iterator[Html]:
-        """What the script of the page makes trees of: a line for each Deferred."""
-        run = self._run
-        yield Html(f'<pre id=stories hidden data-tick="{float(seconds_of(run.tick)):g}">')
-        yield Html("\n".join(escaped(run.stories.written(one, run.durations)) for one in run.fold.records.values()))
-        yield Html("</pre>")
+    @property
+    def later(self) -> List[Tuple[str, Html]]:
+        """What isn't open at first, each with the id of what holds it."""
+        good = [("good", self._table(self._good[:_MOST_OK]))] if self._good else []
+        return good + ([("time", joined(self._axis.table()))] if self._axis.is_there else [])
 
+    @property
+    def numbers(self) -> List[int]:
+        """The numbers of all Deferreds."""
+        return list(self._run.fold.records)
 
-def _window(rows: int, first: Optional[int], last: Optional[int]) -> range:
-    """The places of the rows that are shown, from and to lines with numbers from 1."""
-    start = min(max(1, first or 1), max(1, rows)) - 1
-    stop = min(rows, last if last is not None else rows, start + MOST_ROWS)
-    return range(start, max(start, stop))
-
-
-def asset(name: str) -> str:
-    """A file that a page holds: its style or its script."""
-    return (_FOLDER / name).read_text(encoding="utf-8")
-
-
-def script_of_page(names: Sequence[str] = _SCRIPTS) -> str:
-    """The script of the page, whose files are parts of one function; without indents and comments, which a page needs not."""
-    lines = (line.strip() for name in names for line in asset(name).split("\n"))
-    kept = "\n".join(line for line in lines if line and not line.startswith("//"))
-    return f'(function () {{\n"use strict";\n{kept}\n}})();\n'
-
-
-def policy_hash(text: str) -> str:
-    """How a content security policy names a style or a script."""
-    digest = hashlib.sha256(text.encode("utf-8")).digest()
-    return f"sha256-{base64.b64encode(digest).decode('ascii')}"
+    def story(self, number: int) -> str:
+        """What the script of the page makes trees of: the line of a Deferred, or an empty text if there is none of this number."""
+        record = self._run.fold.records.get(number)
+        return self._run.stories.written(record, self._run.durations) if record is not None else ""

@@ -52,8 +52,3 @@ def listed(parts: Sequence[Part], most: int) -> Phrase:
     for part in parts[:most]:
         said += (", ", part) if said else (part,)
     return said + (" …",) if len(parts) > most else said
-
-
-def several(count: int, one: str, many: str) -> str:
-    """The count with its word."""
-    return f"{count} {one if count == 1 else many}"

@@ -7,9 +7,6 @@ import os
 from typing import Any, Dict, List, Mapping, NamedTuple, Optional, Sequence
 from urllib.parse import quote
 
-#: what a file of places ends with, in place of the `.json` of its script
-SUFFIX = ".places.json"
-
 
 class Place(NamedTuple):
     """A line of a file."""

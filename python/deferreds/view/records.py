@@ -6,7 +6,8 @@ import enum
 from typing import List, NamedTuple, Optional, Tuple
 
 from .lines import Entry, Outcome
-from .phrases import Phrase, several
+from .phrases import Phrase
+from .sizes import several
 
 
 class State(enum.Enum):
@@ -128,9 +129,9 @@ class Record:
 
     def look_at(self, row: int) -> None:
         """Notes what it is from this row on."""
-        now = Look(self.state, self.pauses > 0)
-        if self.spans[-1][1] != now:
-            self.spans.append((row, now))
+        last, state, paused = self.spans[-1][1], self.state, self.pauses > 0
+        if last.state is not state or last.paused is not paused:
+            self.spans.append((row, Look(state, paused)))
 
 
 class Ended(enum.Enum):
@@ -200,6 +201,11 @@ class Actor(NamedTuple):
     number: int = -1
 
 
+#: what most rows have: no cause, and nobody who acts
+_NO_CAUSE: Phrase = ()
+_NOBODY = Actor(By.NOBODY)
+
+
 class Row:
     """A line of the journal in the view."""
 
@@ -234,9 +240,9 @@ class Row:
         self.sides = 0
         #: the row in which it lies directly
         self.inside: Optional[int] = None
-        self.actor = Actor(By.NOBODY)
+        self.actor = _NOBODY
         #: why it happened; plain where that is only who acts
-        self.cause: Phrase = ()
+        self.cause = _NO_CAUSE
         self.is_plain = False
         self.arrows: List[Arrow] = []
         #: the Deferreds that it touches
@@ -244,6 +250,17 @@ class Row:
         self.opens = self.closes = False
         #: whom it serves: the Deferred that gets a token, a value, or the end of a task or a loop by it
         self.serves: Optional[int] = None
+
+    def name(self, number: int) -> None:
+        """Notes that it touches a Deferred."""
+        if not self.names:
+            self.names = [number]  # (a list that is made with one takes less room in the browser than one that grows)
+        elif number not in self.names:
+            self.names.append(number)
+
+    def draw(self, kind: ArrowKind, source: Optional[int], target: int) -> None:
+        """Adds an arrow."""
+        self.arrows = [*self.arrows, Arrow(kind, source, target)] if self.arrows else [Arrow(kind, source, target)]
 
 
 class BracketKind(enum.Enum):

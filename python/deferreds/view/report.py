@@ -24,10 +24,11 @@ from .left import (
     LeftUnhandled,
     LeftValues,
 )
-from .phrases import OfDeferred, OfLine, OfPlace, OfScript, Part, Phrase, listed, several, words
+from .phrases import OfDeferred, OfLine, OfPlace, OfScript, Part, Phrase, listed, words
 from .places import NOWHERE, Places
 from .records import By, Finish, GotNull, Made, Record, Row
 from .scripts import Script
+from .sizes import several
 from .world import Shelf, T
 
 _MOST_HELD = 6

@@ -6,16 +6,18 @@ from typing import List, Optional, Sequence
 
 from .batches import Batches, text_of
 from .durations import Durations
-from .facts import Facts
+from .facts import Facts, read_facts
 from .fold import Fold
 from .left import Left, LeftDeferred, left_of
 from .lines import parts, read_end, read_line
-from .phrases import Phrase, several
-from .places import NOWHERE, Places
+from .phrases import Phrase
+from .places import NOWHERE, Places, read_places
 from .records import Finish
 from .report import Report
-from .scripts import Script
+from .scripts import Script, read_script
 from .sections import places_of
+from .sizes import counts_of, several
+from .sources import Source
 from .stories import Stories
 from .units import in_seconds
 
@@ -100,16 +102,8 @@ class Run:
     @property
     def counts(self) -> str:
         """How large the run is."""
-        events = [several(len(self.script.events), "event", "events")] if self.script.events else []
-        weight = [f"weight {self.weight}"] if self.weight else []
-        parts = [
-            several(len(self.fold.rows), "line", "lines"),
-            several(len(self.fold.records), "Deferred", "Deferreds"),
-            *events,
-            f"time 0 to {self.fold.world.now}" + (f", a tick is {self.tick}" if self.tick else ""),
-            *weight,
-        ]
-        return ", ".join(parts)
+        fold = self.fold
+        return counts_of(len(fold.rows), len(fold.records), len(self.script.events), fold.world.now, self.tick, self.weight or "")
 
 
 def run_of_facts(facts: Facts, script: Script, title: str) -> Run:
@@ -151,4 +145,18 @@ def run_of_journal(
         run.problems.append(
             (several(len(outcomes) - len(ends), "line isn't an outcome", "lines aren't outcomes"),)
         )
+    return run
+
+
+def run_of(source: Source, text: str) -> Run:
+    """The run of a text. Raises NotFacts."""
+    script = read_script(source.script)
+    if source.is_journal:
+        run = run_of_journal(text, source.title, script, source.stopped, source.begins)
+    else:
+        run = run_of_facts(read_facts(text), script, source.title)
+    if source.problem:
+        run.problems.append((source.problem,))
+    run.places = read_places(source.places) if source.places else NOWHERE
+    run.tick = source.tick
     return run

@@ -31,6 +31,7 @@ _MADE: Dict[str, int] = {
     if word.word != "deferred" and _NEW_DEFERRED in word.arguments
 }
 _DEEPEST = 1
+_EXACT = json.JSONDecoder()
 
 #: the places of actions, by the name of a Deferred
 Places = Dict[str, List[str]]
@@ -90,6 +91,14 @@ class Script:
                         if name:
                             places.setdefault(name, []).append(place)
         return self._places
+
+
+def read_script(text: str) -> Script:
+    """The script of a text, as far as it can be read: the program says whether it is one."""
+    try:
+        return Script(_EXACT.decode(text))
+    except (ValueError, RecursionError):
+        return Script()
 
 
 def _text(value: object) -> str:

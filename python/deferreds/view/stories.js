@@ -5,14 +5,15 @@ var HANGS = {
   loop: "is fired when this loop ends: ", task: "is fired when this task ends: "
 };
 var stories = document.getElementById("stories"), tree = document.getElementById("tree"), lines = null, planted = null;
+var tickSeconds = drawn ? drawn.tick : Number(stories.dataset.tick);
 function known() {
   if (!lines) lines = new Map(stories.textContent.split("\n").filter(Boolean).map(function (line) { return [line.split(" ", 1)[0], line]; }));
   return lines;
 }
 // the numbers of all Deferreds
-function numbers() { return Array.from(known().keys()); }
+function numbers() { return drawn ? drawn.numbers : Array.from(known().keys()); }
 function story(number) {
-  var line = known().get(String(number));
+  var line = drawn ? drawn.story(Number(number)) : known().get(String(number));
   if (!line) return null;
   var words = line.split(" ");
   return {
@@ -35,8 +36,8 @@ function stepsOf(words) {
   return open[0];
 }
 function inTicks(count) {
-  var seconds = count * Number(stories.dataset.tick), said = several(count, "tick", "ticks");
-  if (!Number(stories.dataset.tick)) return said;
+  var seconds = count * tickSeconds, said = several(count, "tick", "ticks");
+  if (!tickSeconds) return said;
   if (seconds >= 1000) return said + " (" + seconds.toFixed(0) + " s)";
   if (seconds && seconds < 0.001) return said + " (" + Number((seconds * 1000).toPrecision(3)) + " ms)";
   return said + " (" + Number(seconds.toPrecision(4)) + " s)";
@@ -150,6 +151,7 @@ function atHome(places) { return slots.some(function (row) { return row.id && pl
 function plant(number, stay) {
   var root = story(number);
   if (!root) return;
+  addLater();
   var told = branchesOf(number), places = new Set();
   told.found.forEach(function (one) { [one.step.row, one.step.end].forEach(function (row) { if (row !== null) places.add(row); }); });
   var first = root.steps.length && root.steps[0].row !== null ? root.steps[0].row + 1 : 0;

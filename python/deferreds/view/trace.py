@@ -17,9 +17,6 @@ from .texts import clipped, visible
 
 Json = Dict[str, Any]
 
-#: the file's name ends with this in the place of the `.json` of the script
-SUFFIX = ".trace.json"
-
 #: the process of all tracks, the track of events and calls, and that of the first Deferred
 PROCESS, EVENTS, FIRST = 1, 1, 2
 

@@ -1,38 +1,31 @@
-// A long run: its lines are shown a window at a time, and the others wait as blocks, compressed.
-var windows = [], here = 0, windowNote = document.getElementById("windows"), next = document.getElementById("next");
+// A long run: its lines are shown a window at a time, and each is drawn when it is asked for.
+var windows = drawn ? drawn.windows.map(function (lines) { return { from: lines.start + 1, to: lines.stop, lines: lines }; }) : [];
+var here = 0, windowNote = document.getElementById("windows"), next = document.getElementById("next");
 function windowOf(line) { return windows.find(function (one) { return one.from <= line && line <= one.to; }); }
 function whichLines() { return windows.length ? ", of lines " + windows[here].from + " to " + windows[here].to : ""; }
-function inflate(text) {
-  var bytes = Uint8Array.from(atob(text), function (sign) { return sign.charCodeAt(0); });
-  return new Response(new Blob([bytes]).stream().pipeThrough(new DecompressionStream("deflate"))).text();
-}
 function openWindow(one, then) {
-  (one.block ? inflate(one.block.textContent) : Promise.resolve("")).then(function (text) {
-    var parts = Array.prototype.slice.call(chart.children).filter(function (part) { return part !== column; });
-    if (!windows[here].block) windows[here].parts = parts;
-    here = windows.indexOf(one);
-    parts.forEach(function (part) { part.remove(); });
-    // (what the page itself has written: each text in it went through its one escaping function)
-    if (one.block) column.insertAdjacentHTML("afterend", text);
-    else chart.append.apply(chart, one.parts);
-    chart.style.width = one.wide ? one.wide + "px" : "";
-    chart.style.setProperty("--side", one.side ? "min(" + one.side + "px,62vw)" : "");
-    if (one.last && document.getElementById("last")) document.getElementById("last").style.height = one.last + "px";
-    linkFar();
-    gather();
-    findKinds();
-    makeBoxes();
-    delete sieves.kind;
-    delete sieves.tree;
-    makeFolds();
-    strain();
-    if (planted !== null) plant(planted, true);
-    if (sought) seek(find.value);
-    if (chosen !== null) choose(chosen);
-    tellWindows();
-    if (then) then();
-    else chart.scrollIntoView();
-  });
+  var window = drawn.shown_in(one.lines);
+  here = windows.indexOf(one);
+  Array.prototype.slice.call(chart.children).forEach(function (part) { if (part !== column) part.remove(); });
+  // (each text of the run in it has gone through the one function that escapes)
+  column.insertAdjacentHTML("afterend", Array.from(window.pieces()).join(""));
+  chart.style.width = window.width + "px";
+  chart.style.setProperty("--side", "min(" + window.side + "px,62vw)");
+  if (document.getElementById("last")) document.getElementById("last").style.height = window.rest + "px";
+  linkFar();
+  gather();
+  findKinds();
+  if (boxes.length) makeBoxes();
+  delete sieves.kind;
+  delete sieves.tree;
+  makeFolds();
+  strain();
+  if (planted !== null) plant(planted, true);
+  if (sought) seek(find.value);
+  if (chosen !== null) choose(chosen);
+  tellWindows();
+  if (then) then();
+  else chart.scrollIntoView();
 }
 // lines of other windows are links, too
 function linkFar() {
@@ -57,14 +50,7 @@ function opener(one, text) {
   button.addEventListener("click", function () { openWindow(one); });
   return button;
 }
-all(".block").forEach(function (block) {
-  if (!windows.length) {
-    var rows = slots.filter(function (row) { return row.id; });
-    windows.push({ from: Number(rows[0].id.slice(1)), to: Number(block.dataset.from) - 1 });
-  }
-  windows.push({ from: Number(block.dataset.from), to: Number(block.dataset.to), wide: block.dataset.w, side: block.dataset.s, last: block.dataset.l, block: block });
-});
-if (typeof DecompressionStream === "undefined") windows = [];
+if (windows.length === 1) windows = [];
 if (windows.length) {
   tellWindows();
   document.addEventListener("click", function (event) {
@@ -76,7 +62,28 @@ if (windows.length) {
   });
   linkFar();
 }
+// what isn't open at first comes once the page is seen, or a tree needs it
+var isLater = drawn !== null;
+function addLater() {
+  if (!isLater) return;
+  isLater = false;
+  drawn.later.forEach(function (part) { document.getElementById(part[0]).insertAdjacentHTML("beforeend", part[1]); });
+  if (windows.length) linkFar();
+  showDeferreds();
+  if (sought) seek(find.value);
+  if (chosen !== null) choose(chosen);
+  body.dataset.whole = "";
+}
 addEventListener("hashchange", follow);
-// (the browser goes to the row of the outcome by itself, once the page is there)
-addEventListener("load", function () { if (planted !== null) tree.scrollIntoView(); });
+// (the browser goes to a place by itself, once the page is there: to the row of an outcome, too; a page that draws itself comes later)
+function arrive() {
+  var aim = drawn && document.getElementById(decodeURIComponent(location.hash.slice(1)));
+  if (planted !== null) tree.scrollIntoView();
+  else if (aim && !aim.hidden) aim.scrollIntoView();
+}
+if (!drawn) addEventListener("load", arrive);
 follow();
+if (drawn) {
+  arrive();
+  setTimeout(addLater, 100);
+}

@@ -2,8 +2,6 @@
 
 from __future__ import annotations
 
-import base64
-import zlib
 from typing import Iterator, List
 
 from .chart import Chart
@@ -15,7 +13,7 @@ from .texts import Html, escaped, joined
 
 
 class Window:
-    """The chart of some lines; its references lead to rows within it, and to others of `there` where the page's script shows them."""
+    """The chart of some lines; its references lead to rows within it, and to others of `there` where a page that draws itself shows them."""
 
     def __init__(self, run: Run, events: Events, lines: range, there: range) -> None:
         self.lines = lines
@@ -35,14 +33,6 @@ class Window:
         yield self._head()
         yield from self._chart.pieces()
         yield from self._dropped()
-
-    def packed(self) -> Html:
-        """The chart as a block, which the page's script opens: what it holds, compressed, as base 64."""
-        data = zlib.compress("".join(self.pieces()).encode("utf-8"))
-        return Html(
-            f"<pre class=block hidden data-from={self.lines.start + 1} data-to={self.lines.stop} data-w={self.width} data-s={self.side}"
-            f" data-l={self.rest}>{base64.b64encode(data).decode('ascii')}</pre>"
-        )
 
     def _head(self) -> Html:
         """The head of the chart, which stays in sight: what the columns are, and whose the lanes."""

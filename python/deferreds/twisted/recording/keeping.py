@@ -8,12 +8,11 @@ from typing import Any, Dict, Optional
 
 import twisted
 
-from ...view.page import Page
-from ...view.phrases import several
-from ...view.places import SUFFIX as PLACES
-from ...view.places import read_places
-from ...view.run import run_of_journal
-from ...view.scripts import Script
+from ...view.pages import page_of
+from ...view.run import run_of
+from ...view.sizes import several
+from ...view.sources import PLACES
+from ...view.sources import Source
 from ..programs import Program
 from .agreeing import Agreement, agreement
 from .files import Place, Written
@@ -112,15 +111,10 @@ class Keeping:
             files[PLACES] = places
         if not self._view:
             return ""
-        script = Script(None if refused else said.script)
-        run = run_of_journal(said.whole_output, self.place.name.name, script, False, said.begins)
-        if refused:
-            run.problems.append((f"a script can't say this: {refused}. What is shown may lack it",))
-        elif not said.is_whole:
-            run.problems.append((_beginning(said),))
-        run.places = read_places(places) if places is not None else run.places
-        run.tick = said.tick
-        files[".html"] = Page(run).html()
+        problem = f"a script can't say this: {refused}. What is shown may lack it" if refused else "" if said.is_whole else _beginning(said)
+        source = Source(self.place.name.name, True, "" if refused else said.text, places or "", said.tick, False, said.begins, problem)
+        run = run_of(source, said.whole_output)
+        files[".html"] = page_of(source, said.whole_output, run)
         return run.counts
 
     def _write_files(self, files: Dict[str, str], facts: Dict[str, Any], counts: str) -> Written:
