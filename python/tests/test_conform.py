@@ -119,7 +119,7 @@ class OursTest(ConformTest):
 
     def test_without_a_program_of_ours_random_scripts_end_with_status_70(self) -> None:
         absent = subprocess.CompletedProcess(["deferreds"], 70, stdout="", stderr="")
-        with mock.patch("deferreds.program.subprocess.run", return_value=absent):
+        with mock.patch("subprocess.run", return_value=absent):
             ran = conforming("--random", "1", "--", "true")
         self.assertEqual(ran.status, 70)
         self.assertIn("./deferreds --build", ran.errors)
@@ -325,7 +325,7 @@ class OrdersTest(ConformTest):
 
     def test_our_program_is_needed_for_rows_too(self) -> None:
         absent = subprocess.CompletedProcess(["deferreds"], 70, stdout="", stderr="")
-        with mock.patch("deferreds.program.subprocess.run", return_value=absent):
+        with mock.patch("subprocess.run", return_value=absent):
             ran = conforming("--rows", "--orders", "--", "true")
         self.assertEqual((ran.status, ran.output), (70, ""))
 

@@ -388,9 +388,10 @@ class Limits(RecordingCase):
                 self.assertEqual(ended.status, 0, ended.said)
                 told = f"the script is of the first {events} of {2 * int(words[0])} events, since {reason}"
                 self.assertIn(f"{told}; ./deferreds prints the same", ended.said)
-                self.assertIn(told.replace("'", "&#x27;"), self.text("run.html"))
                 self.assert_goes_together("run")
                 whole = self.text("run.whole.journal").splitlines()
+                if len(whole) < 1000:  # (the page of a longer run draws itself)
+                    self.assertIn(told.replace("'", "&#x27;"), self.text("run.html"))
                 self.assertEqual(len(whole), 3 * int(words[0]))
                 self.assertEqual(len(self.events("run")), events)
 
