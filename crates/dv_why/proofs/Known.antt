@@ -20,10 +20,11 @@ use Rattle.dv_grammar.specs.declared.draft.Draft.{Draft}
 use Rattle.dv_grammar.specs.Grammar.{IsNamedBody, names_body, IsPool, pools, IsScript}
 use Rattle.dv_grammar.proofs.Steps.{some_injective}
 use Rattle.dv_questions.specs.Questions.{Asked, words, names, classes, pools as pools_asked, is_known, is_pool}
-use Rattle.dv_questions.specs.Questions.{is_among, stands, bodies as bodies_asked, is_body, has_body}
+use Rattle.dv_questions.specs.Questions.{is_among, stands, bodies as bodies_asked, is_body, has_body, has_object}
 use Rattle.dv_forms.specs.declared.versions.TheConstants.{BODIES_SINCE, COMMENTS_SINCE}
 use Rattle.dv_forms.specs.declared.want.Leaf.{Leaf}
 use Rattle.dv_forms.specs.declared.want.Leaf.TheVariants as leaf
+use Rattle.dv_forms.specs.declared.want.Object.TheVariants as object
 use Rattle.dv_reader.specs.Limits.{is_small}
 use Rattle.dv_reader.specs.Refusal.{answers, are_named, are_known, are_distinct, are_pooled, have_own_names}
 use Rattle.dv_reader.specs.Refusal.{have_bodies}
@@ -63,7 +64,8 @@ answered {a = a} d draft t g h =
 -- ---- names
 
 names_asked : (v w : ℕ) → v ≡ w → Tells (question.Names v) (names w)
-names_asked v w same = record { leaf = λ l x h. rw (← same) h; word = λ c x h. refl }
+names_asked v w same =
+    record { leaf = λ l x h. rw (← same) h; word = λ c x h. refl; body = λ x h. rw (← same) h }
 
 -- ---- classes
 
@@ -72,7 +74,11 @@ classes_asked : (q : Question) (d : Data) (table : List Class) → IsOfClasses d
 classes_asked (question.Shape version) d table of same = absurd of
 classes_asked (question.Names version) d table of same = absurd of
 classes_asked (question.Classes given) d table of same =
-    record { leaf = λ l x h. ap (λ t. is_known t l x) (sym (of ∙ same)) ∙ h; word = λ c x h. refl }
+    record {
+      leaf = λ l x h. ap (λ t. is_known t l x) (sym (of ∙ same)) ∙ h;
+      word = λ c x h. refl;
+      body = λ x h. ap (λ t. is_known t (leaf.Found object.Body) x) (sym (of ∙ same)) ∙ h;
+    }
 classes_asked (question.Pools ps) d table of same = absurd of
 classes_asked (question.Bodies bs) d table of same = absurd of
 
@@ -189,6 +195,7 @@ pools_tell (question.Pools ps) d draft of g = record {
       λ l x h. or_also (not (is_pool l)) (is_declared ps.now x) (is_among x draft.script.pools)
       (among_declared d draft ps.now of g x) h;
   word = λ c x h. refl;
+  body = λ x h. refl;
 }
 
 all_distinct : (d : Data) (draft : Draft) (b : Bool) → nat_eq (version_in d) 1 ≡ b → IsScript d draft → PoolsDistinct d
@@ -255,6 +262,7 @@ bodies_tell (question.Bodies bs) d draft of g = record {
       λ l x h. or_also (not (is_body l)) (is_declared bs.now x) (has_body x draft.script.bodies)
       (body_declared d draft bs.now of g x) h;
   word = λ c x h. refl;
+  body = λ x h. body_declared d draft bs.now of g x h;
 }
 
 all_own_names : (d : Data) (draft : Draft) (b : Bool) → nat_lt (version_in d) BODIES_SINCE ≡ b → IsScript d draft
@@ -320,7 +328,7 @@ leaf_stands : (v : ℕ) (l : Leaf) (x : List ℕ) → leaf_fits v l (string x) �
 leaf_stands v leaf.Comment x h = (and_parts (nat_le COMMENTS_SINCE v) true h).0
 leaf_stands v leaf.Text x h = refl
 leaf_stands v (leaf.New o) x h = refl
-leaf_stands v (leaf.Found o) x h = refl
+leaf_stands v (leaf.Found o) x h = (and_parts (has_object v o) true h).0
 leaf_stands v leaf.Integer x h = refl
 leaf_stands v (leaf.Number low high) x h = refl
 leaf_stands v leaf.Boolean x h = refl
@@ -330,7 +338,11 @@ leaf_stands v leaf.GatherFlag x h = refl
 
 shape_asked : (v w : ℕ) → v ≡ w → Tells (question.Shape v) (words w)
 shape_asked v w same =
-    record { leaf = λ l x h. rw (← same) (leaf_stands v l x h); word = λ c x h. rw (← same) h }
+    record {
+      leaf = λ l x h. rw (← same) (leaf_stands v l x h);
+      word = λ c x h. rw (← same) h;
+      body = λ x h. rw (← same) h;
+    }
 
 -- refused for its shape, a part is found that doesn't fit
 pub found_shape : (d : Data) (m : Misfit) → IsRefusedFor BadShape d → depth d ≤ MOST_LEVELS

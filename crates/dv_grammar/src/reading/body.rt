@@ -1,7 +1,8 @@
-ghost use Rattle.std.specs.Prelude.{[], option_map};
+ghost use Rattle.std.specs.Prelude.{[], option_map, Some};
 ghost use Rattle.serde_json.specs.View.{view, items_view};
 ghost use Rattle.dv_forms.specs.Answer.{Reads};
 ghost use Rattle.dv_forms.specs.Parts.{each, list_at, field};
+ghost use Rattle.dv_grammar.specs.Grammar.{running};
 ghost use Rattle.dv_grammar.specs.Shape.{action_at, body_at, end_at};
 ghost use Rattle.dv_script.specs.declared.body.End.TheVariants.{Pass};
 
@@ -13,15 +14,19 @@ use dv_script::action::Action;
 use dv_script::body::{Body, End};
 use dv_value::classes::Classes;
 use dv_value::items::Items;
+use dv_value::text::Text;
 use serde_json::Value as Json;
 use std::alloc::Global;
 
 /// A body, in which bodies and statements nest to `levels`, itself among them.
 #[cycle(shape)]
-#[tactic(auto, unfolding(crate::specs::Shape::readers, crate::specs::Shape::body_by))]
+#[tactic(auto, unfolding(crate::specs::Shape::readers, crate::specs::Shape::body_by, crate::specs::Shape::keyed_body_by))]
 pub fn body(alloc: Global, classes: &Classes, levels: u32, json: &Json) -> Result<Body, Stop>
     ensures { Reads result (body_at classes.now levels (view json.now)) }
 {
+    if let Some(name) = json.as_str() {
+        return by_name(alloc, name);
+    }
     if levels == 0 {
         return Err(Stop::BadShape);
     }
@@ -29,6 +34,16 @@ pub fn body(alloc: Global, classes: &Classes, levels: u32, json: &Json) -> Resul
     let actions = performed(alloc, classes, levels - 1, json.get("do"))?;
     let end = last(alloc, classes, json.get("end"))?;
     Ok(Body { actions, end })
+}
+
+/// A body that has the one of this name run in its place.
+fn by_name(alloc: Global, name: &str) -> Result<Body, Stop>
+    ensures { Reads result (Some (running name.now)) }
+{
+    Ok(Body {
+        actions: Items::new(alloc),
+        end: End::Run(Text::of(alloc, name)?),
+    })
 }
 
 /// The items of an array of bodies.
