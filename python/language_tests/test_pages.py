@@ -20,7 +20,7 @@ _SHOWN: Dict[str, str] = {
     "fired": "#[A-Z]",
     "new name": "NAME",
     "name": "NAME",
-    "object": "[A-Z]",
+    "object": "[A-Z]|NAME",
     "job": "K",
     "number": "[A-Z]",
     "bound": "SIZE|BACKLOG",

@@ -3,7 +3,8 @@ use Rattle.std.specs.Prelude.{ℕ, List, map, Option, None, Some, option_map, co
 use Rattle.serde_json.specs.Data.{Data, null, unsigned, number, string, array, object, member, no_members}
 use Rattle.serde_json.specs.View.{items_of}
 use Rattle.dv_clock.specs.declared.limits.TheConstants.{MOST_TICKS}
-use Rattle.dv_script.specs.declared.limits.TheConstants.{MOST_BYTES, MOST_CALLERS, MOST_CLASSES, MOST_LEVELS}
+use Rattle.dv_script.specs.declared.limits.TheConstants.{MOST_BODIES, MOST_BYTES, MOST_CALLERS, MOST_CLASSES}
+use Rattle.dv_script.specs.declared.limits.TheConstants.{MOST_LEVELS}
 use Rattle.dv_script.specs.declared.limits.TheConstants.{MOST_LIMIT, MOST_NODES, MOST_POOLS, MOST_POSTS, USUAL_LIMIT}
 use Rattle.dv_script.specs.declared.work.TheConstants.{MOST_JOBS}
 use Rattle.dv_forms.specs.declared.limits.TheConstants.{WIDEST_BYTES, WIDEST_NODES}
@@ -40,13 +41,13 @@ count n = number (unsigned n)
 -- the most that there may be
 abbrev pub limits_data : Data
 limits_data =
-    object (member (codes "bytes") (count WIDEST_BYTES)
+    object (member (codes "bodies") (count MOST_BODIES) (member (codes "bytes") (count WIDEST_BYTES)
     (member (codes "callers") (count MOST_CALLERS) (member (codes "classes") (count MOST_CLASSES)
     (member (codes "depth") (count MOST_LEVELS)
     (member (codes "jobs") (count MOST_JOBS) (member (codes "name") (count MOST_NAME)
     (member (codes "nodes") (count WIDEST_NODES)
     (member (codes "pools") (count MOST_POOLS) (member (codes "posts") (count MOST_POSTS)
-    (member (codes "time") (count MOST_TICKS) no_members))))))))))
+    (member (codes "time") (count MOST_TICKS) no_members)))))))))))
 
 -- the most of a script of a version before these limits
 abbrev pub smaller_data : Data

@@ -32,7 +32,18 @@ is_comment leaf.ListFlag = false
 is_comment leaf.GatherFlag = false
 is_comment leaf.Comment = true
 
--- 1, or that of comments, or 2 where a script of version 1 may not have the key
+-- whether a place asks for the value of a key that may not be there
+abbrev pub is_other : Want → Bool
+is_other (want.Leaf l) = false
+is_other want.Value = false
+is_other (want.Call c) = false
+is_other (want.Pair p) = false
+is_other (want.Keyed k) = false
+is_other (want.Array i) = false
+is_other (want.Word c) = false
+is_other (want.Other k) = true
+
+-- 1, or that of comments, where each version has the key
 abbrev pub since_by : Want → ℕ
 since_by (want.Leaf l) = if is_comment l then COMMENTS_SINCE else 1
 since_by want.Value = 1
@@ -41,11 +52,17 @@ since_by (want.Pair p) = 1
 since_by (want.Keyed k) = 1
 since_by (want.Array i) = 1
 since_by (want.Word c) = 1
-since_by (want.Other k) = 2
+since_by (want.Other k) = 1
+
+-- the first version in which a script may have a key: the one after the last that may not
+abbrev pub since_script : List ℕ → ℕ
+since_script key =
+    if is_other (key_want (keyed.Script 2) key) then 3 else
+    if is_other (key_want (keyed.Script 1) key) then 2 else since_by (key_want (keyed.Script 1) key)
 
 -- the first version in which an object may have a key
 abbrev pub since : Keyed → List ℕ → ℕ
-since (keyed.Script version) key = since_by (key_want (keyed.Script 1) key)
+since (keyed.Script version) key = since_script key
 since keyed.Cooperator key = since_by (key_want keyed.Cooperator key)
 since keyed.Body key = since_by (key_want keyed.Body key)
 

@@ -22,6 +22,7 @@ kind_name of_kind.Queue = codes "queue"
 kind_name of_kind.Call = codes "call"
 kind_name of_kind.Loop = codes "loop"
 kind_name of_kind.Task = codes "task"
+kind_name of_kind.Body = codes "body"
 
 -- which object of its name it is
 abbrev pub naming_name : Naming → List ℕ

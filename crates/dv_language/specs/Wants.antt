@@ -27,6 +27,7 @@ object_name named.Loop = codes "loop"
 object_name named.Task = codes "task"
 object_name named.Pool = codes "pool"
 object_name named.Class = codes "class"
+object_name named.Body = codes "body"
 
 -- where a word may stand
 abbrev pub place_name : Call → List ℕ

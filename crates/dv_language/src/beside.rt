@@ -13,8 +13,8 @@ use dv_forms::limits::{WIDEST_BYTES, WIDEST_NODES};
 use dv_forms::versions::WIDE_SINCE;
 use dv_reader::error::{REFUSALS, ScriptFault, refusal_name, refusal_number};
 use dv_script::limits::{
-    MOST_BYTES, MOST_CALLERS, MOST_CLASSES, MOST_LEVELS, MOST_LIMIT, MOST_NODES, MOST_POOLS,
-    MOST_POSTS, USUAL_LIMIT,
+    MOST_BODIES, MOST_BYTES, MOST_CALLERS, MOST_CLASSES, MOST_LEVELS, MOST_LIMIT, MOST_NODES,
+    MOST_POOLS, MOST_POSTS, USUAL_LIMIT,
 };
 use dv_script::work::MOST_JOBS;
 use serde_json::{Value as Json, json, push};
@@ -109,6 +109,7 @@ pub fn limits_json(alloc: Global) -> Result<Json, AllocError>
         "nodes": WIDEST_NODES,
         "classes": MOST_CLASSES,
         "pools": MOST_POOLS,
+        "bodies": MOST_BODIES,
         "callers": MOST_CALLERS,
         "posts": MOST_POSTS,
         "time": MOST_TICKS,

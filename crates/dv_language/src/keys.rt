@@ -2,7 +2,8 @@
 
 ghost use Rattle.std.specs.Prelude.{◌≡◌, ◌++◌, IfOk, OnOk, map};
 ghost use Rattle.serde_json.specs.View.{view};
-ghost use Rattle.dv_language.specs.Keys.{is_needed, since, since_by, key_data, keys_of, keys_data};
+ghost use Rattle.dv_language.specs.Keys.{is_needed, is_other, since, since_by, since_script};
+ghost use Rattle.dv_language.specs.Keys.{key_data, keys_of, keys_data};
 
 use crate::wants::{keyed_name, want_json};
 use dv_forms::versions::{COMMENTS_SINCE, LAST_VERSION};
@@ -21,8 +22,23 @@ fn is_needed(keyed: Keyed, key: &str) -> bool
     }
 }
 
-/// The first version in which a place may ask for this, where an earlier one asks for the value of
-/// a key that may not be there.
+/// Whether a place asks for the value of a key that may not be there.
+fn is_other(want: Want) -> bool
+    ensures { result ≡ is_other want }
+{
+    match want {
+        Want::Leaf(_)
+        | Want::Value
+        | Want::Call(_)
+        | Want::Pair(_)
+        | Want::Keyed(_)
+        | Want::Array(_)
+        | Want::Word(_) => false,
+        Want::Other(_) => true,
+    }
+}
+
+/// The first version in which a place may ask for this, where each version has its key.
 fn since_by(want: Want) -> u32
     ensures { result ≡ since_by want }
 {
@@ -37,8 +53,21 @@ fn since_by(want: Want) -> u32
         | Want::Pair(_)
         | Want::Keyed(_)
         | Want::Array(_)
-        | Want::Word(_) => 1,
-        Want::Other(_) => 2,
+        | Want::Word(_)
+        | Want::Other(_) => 1,
+    }
+}
+
+/// The first version in which a script may have a key that it may have in the last one.
+fn since_script(key: &str) -> u32
+    ensures { result ≡ since_script key.now }
+{
+    if is_other(Keyed::Script(2).want(key)) {
+        3
+    } else if is_other(Keyed::Script(1).want(key)) {
+        2
+    } else {
+        since_by(Keyed::Script(1).want(key))
     }
 }
 
@@ -47,7 +76,7 @@ fn since(keyed: Keyed, key: &str) -> u32
     ensures { result ≡ since keyed key.now }
 {
     match keyed {
-        Keyed::Script(_) => since_by(Keyed::Script(1).want(key)),
+        Keyed::Script(_) => since_script(key),
         Keyed::Cooperator | Keyed::Body => since_by(keyed.want(key)),
     }
 }

@@ -27,6 +27,7 @@ fn object_name(object: Object) -> &'static str
         Object::Task => "task",
         Object::Pool => "pool",
         Object::Class => "class",
+        Object::Body => "body",
     }
 }
 
