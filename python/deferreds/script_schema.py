@@ -104,6 +104,12 @@ class _Maker:
         least = min(len(row.arguments) for row in rows) + 1
         return {"title": " or ".join(row.text for row in rows), **_fixed(parts), "minItems": least}
 
+    def either(self, name: str) -> Schema:
+        """What stands where an object is asked for: a body may be the name of one that is declared."""
+        if name != "body":
+            return self.object(name)
+        return {"anyOf": [self.object(name), self._name({"of": name})]}
+
     def object(self, name: str) -> Schema:
         """An object of the language: the script, its `cooperator`, a body, a failure in a value."""
         keys = self._language.keys_of(name)
@@ -171,7 +177,7 @@ def schema_of(language: Language) -> Schema:
         **maker.later(),
         "$defs": {
             **maker.names(),
-            **{name: maker.object(name) for name in objects},
+            **{name: maker.either(name) for name in objects},
             **{place: maker.place(place) for place in places},
         },
     }

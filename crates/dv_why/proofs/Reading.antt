@@ -51,7 +51,8 @@ use Rattle.dv_grammar.specs.Grammar.{cancel_call, reset_call, delay_call, loop, 
 use Rattle.dv_grammar.specs.Grammar.{pause_task, stop_task}
 use Rattle.dv_grammar.specs.Grammar.{resume_task, inline, thread, thread_in, units as units_rule, AreActions}
 use Rattle.dv_grammar.specs.Grammar.{no_actions, more_actions, IsDo}
-use Rattle.dv_grammar.specs.Grammar.{does_nothing, does, IsBody, body, AreBodies, no_bodies, more_bodies, IsStatement}
+use Rattle.dv_grammar.specs.Grammar.{does_nothing, does, IsBody, body, body_by_name, running, AreBodies, no_bodies}
+use Rattle.dv_grammar.specs.Grammar.{more_bodies, IsStatement}
 use Rattle.dv_grammar.specs.Grammar.{performs, awaits, tries, leaves, AreStatements, no_statements, more_statements}
 use Rattle.dv_grammar.specs.Grammar.{IsEvent, acts, advances, drains, IsDeclaration, declares, IsPool, pools}
 use Rattle.dv_grammar.specs.Grammar.{IsCooperator, IsScript, IsBound, IsNamedBody, names_body}
@@ -246,7 +247,7 @@ other_ends v n table =
     rw (a.items, t.1) (Wait t.0, waits t.0)) &
     (λ ds h.
     let a = one_arg v n (want.Leaf (leaf.Found object.Body)) ds h in
-    let t = text_of a.a (fits_fine a.fine) in
+    let t = text_of a.a (and_parts (nat_le BODIES_SINCE v) (is_some (as_str a.a)) (fits_fine a.fine)).1 in
     rw (a.items, t.1) (Run t.0, runs t.0)) &
     tt
 
@@ -574,6 +575,7 @@ body_of v n table r (object ms) h =
     let xs = do_of v n table r (get_member (codes "do") ms) (λ e is. under (codes "do") h refl is) in
     let x = last_of v n table (get_member (codes "end") ms) (λ e is. under (codes "end") h refl is) in
     (record { actions = xs.0; end = x.0 }, body ms xs.0 x.0 (body_only v ms h.suit) xs.1 x.1)
+body_of v n table r (string x) h = (running x, body_by_name x)
 body_of v n table r d h = let fit : fits v a_body d ≡ true = fits_fine h in cc
 
 -- the arguments of a word read as those of a statement
@@ -618,6 +620,7 @@ statement_fine v n table r d h =
 
 no_body : (v : ℕ) (table : List Class) (d : Data) → IsFine v 0 a_body d → (b : Body) × IsBody table d b
 no_body v table (object ms) h = let deep : depth (object ms) ≤ 0 = h.deep in absurd (omega (arith, deep))
+no_body v table (string x) h = (running x, body_by_name x)
 no_body v table d h = let fit : fits v a_body d ≡ true = fits_fine h in cc
 
 no_statement : (v : ℕ) (table : List Class) (d : Data) → IsFine v 0 (want.Call call_of.Statement) d

@@ -191,11 +191,19 @@ fn failure_text(version: u32) -> &'static str {
     }
 }
 
+fn body_text(version: u32) -> &'static str {
+    if version < BODIES_SINCE {
+        "a body: an object of the keys do and end, each of which may be left out"
+    } else {
+        "a body: an object of the keys do and end, each of which may be left out, or the name of a body that the key `bodies` declares"
+    }
+}
+
 fn keyed_text(version: u32, keyed: Keyed) -> &'static str {
     match keyed {
         Keyed::Script(_) => "a script: an object",
         Keyed::Cooperator => "a cooperator: an object of the keys units and delay",
-        Keyed::Body => "a body: an object of the keys do and end, each of which may be left out",
+        Keyed::Body => body_text(version),
         Keyed::Failure => failure_text(version),
     }
 }
@@ -367,6 +375,35 @@ fn forms_in(call: Call, json: &Json) -> Option<Shown> {
     }
 }
 
+/// What is expected at the place of an object where a text stands: the name of a body, where a
+/// script of this version has some.
+fn text_expected(version: u32, keyed: Keyed) -> Expected {
+    match keyed {
+        Keyed::Body => if version < BODIES_SINCE {
+            Expected::Wanted(version, Want::Keyed(keyed))
+        } else {
+            Expected::Wanted(version, Want::Leaf(Leaf::Found(Object::Body)))
+        },
+        Keyed::Script(_) | Keyed::Cooperator | Keyed::Failure => {
+            Expected::Wanted(version, Want::Keyed(keyed))
+        }
+    }
+}
+
+/// What is expected at the place of an object where this stands.
+fn keyed_expected(version: u32, keyed: Keyed, found: &Json) -> Expected {
+    match found {
+        Json::Object(_) => match missing_key(keyed, found) {
+            Some(key) => Expected::Key(key),
+            None => Expected::Wanted(version, Want::Keyed(keyed)),
+        },
+        Json::String(_) => text_expected(version, keyed),
+        Json::Null | Json::Bool(_) | Json::Number(_) | Json::Array(_) => {
+            Expected::Wanted(version, Want::Keyed(keyed))
+        }
+    }
+}
+
 /// The key that an object has to have and hasn't. What a failure lacks, its form shows.
 fn missing_key(keyed: Keyed, json: &Json) -> Option<&'static str> {
     let keys: &'static [&'static str] = match keyed {
@@ -391,10 +428,7 @@ impl Expected {
                 Some(shown) => Expected::Form(shown),
                 None => Expected::Wanted(version, want),
             },
-            Want::Keyed(keyed) => match (found, missing_key(keyed, found)) {
-                (Json::Object(_), Some(key)) => Expected::Key(key),
-                (_, Some(_) | None) => Expected::Wanted(version, want),
-            },
+            Want::Keyed(keyed) => keyed_expected(version, keyed, found),
             Want::Leaf(_)
             | Want::Value
             | Want::Pair(_)

@@ -3,7 +3,7 @@
 from __future__ import annotations
 
 import enum
-from typing import Any, Dict, FrozenSet, List, Tuple
+from typing import Any, Dict, FrozenSet, List, Tuple, Union
 
 from ..language import LANGUAGE, Form, Word
 
@@ -136,6 +136,9 @@ FOUND: FrozenSet[Kind] = frozenset(
 )
 
 Arguments = Tuple[Kind, ...]
+
+#: a body: an object, or the name of one that the script declares
+Body = Union[Dict[str, Any], str]
 
 #: the kinds of what isn't a number, a name, an array or flags
 _PLAIN: Dict[str, Kind] = {

@@ -247,7 +247,9 @@ class Scripts:
             return {"fail": "FirstError", "index": index, "message": "", "sub": self._failure()}
         return {"fail": self._random.choice(_CLASSES), "message": self._random.choice(_TEXTS)}
 
-    def _body(self, depth: int) -> Dict[str, Any]:
+    def _body(self, depth: int) -> grammar.Body:
+        if self._named and self._one_in(6):
+            return self._random.choice(self._named)
         body: Dict[str, Any] = {}
         if not self._one_in(3):
             body["do"] = [self._action(depth + 1) for _ in range(self._random.randint(0, 3))]
@@ -255,7 +257,7 @@ class Scripts:
             body["end"] = self._end(grammar.ENDS, depth + 1)
         return self._commented(body)
 
-    def _bodies(self, depth: int) -> List[Dict[str, Any]]:
+    def _bodies(self, depth: int) -> List[grammar.Body]:
         return [self._body(depth) for _ in range(self._random.randint(0, 4))]
 
     def _end(self, table: Dict[str, List[grammar.Arguments]], depth: int) -> List[Any]:

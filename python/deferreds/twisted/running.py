@@ -276,11 +276,13 @@ class Player:
 
     def _body(
         self,
-        body: Dict[str, Any],
+        body: grammar.Body,
         given: object = None,
         here: Optional[Deferred[Any]] = None,
     ) -> Any:
         """Performs a body on what it is given."""
+        if isinstance(body, str):
+            return self._run_body(body, given, here)
         for action in body.get("do", ()):
             self._action(action, here)
         return self._end(body.get("end", ("pass",)), given, here)

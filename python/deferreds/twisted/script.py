@@ -60,8 +60,8 @@ class Script:
         self.delay: int = cooperator["delay"]
         #: the names of the pools; no line shows how many workers one has
         self.pools: List[str] = [name for name, _ in root.get("pools", [])]
-        self.bodies: Dict[str, Dict[str, Any]] = dict(root.get("bodies", []))
-        self.callers: List[List[Dict[str, Any]]] = root.get("callers", [])
+        self.bodies: Dict[str, grammar.Body] = dict(root.get("bodies", []))
+        self.callers: List[List[grammar.Body]] = root.get("callers", [])
 
 
 def read(data: bytes, names_of_classes: Sequence[str]) -> Script:
@@ -305,6 +305,10 @@ class _Shape:
             self._body(body)
 
     def _body(self, body: Any) -> None:
+        if isinstance(body, str) and grammar.SINCE["run"] <= self._version:
+            self.found.names.append(body)
+            self.found.bodies.append(body)
+            return
         self._keys(body, set(), {"do", "end"} | self._comment)
         for action in self._array(body.get("do", [])):
             self._said(action, grammar.ACTIONS)
