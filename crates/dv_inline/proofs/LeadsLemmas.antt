@@ -2,7 +2,8 @@
 use Rattle.std.proofs.Common.{◌≡◌, ℕ, List, [], ◌∷◌, map, Option, None, Some, refl, ap, ◌∙◌, sym, subst}
 use Rattle.dv_inline.specs.Leads.{inside_meant, through, reached_unless, reached, LeadsBy, LeadAlike, IsDue, Stands}
 use Rattle.dv_inline.specs.Leads.{ComesTo}
-use Rattle.dv_inline.specs.Meaning.{Reached, Wants, Over, past, thrown, left, wants, followed, caught, caught_by, finished}
+use Rattle.dv_inline.specs.Meaning.{Reached, Wants, Over, past, thrown, left, wants, followed, caught, caught_by}
+use Rattle.dv_inline.specs.Meaning.{finished}
 use Rattle.dv_inline.specs.Meaning.{do_meant, await_meant, raise_meant, caught_meant, raised, no_active, done_by}
 use Rattle.dv_inline.specs.Meaning.{in_order, statement_meant, meant, all_meant, ended, result_of, Meant}
 use Rattle.dv_inline.specs.Position.{Position, moved, moved_by, moved_in, moved_unless, outward, come, want_by, want_in}
@@ -114,7 +115,8 @@ thrown_on (Some class) catch failure outer rest opens p more n h = rw n refl
 thrown_at : (place : Inside) (failure : Failure) (outer : Position) (rest : List Statement) (opens : List Open)
     (p : Position) (more : List Value) → p.result ≡ None
     → reached outer more ≡ result_of (through p.classes opens (thrown failure more))
-    → reached (thrown_to outer failure (second_for (class_caught p.classes failure place) place) (ahead place) rest opens
+    → reached
+    (thrown_to outer failure (second_for (class_caught p.classes failure place) place) (ahead place) rest opens
     p) more
     ≡ result_of (through p.classes opens
     (followed (inside_meant p.classes place (active opens) (thrown failure more))

@@ -85,8 +85,8 @@ caught table listed second (left v answers) = left v answers
 caught table listed second (wants want) = wants want
 
 -- after the first statements of a `finally` the second run, on null, however the first ended. A failure that was thrown
--- is active in them. After the last of them it goes on as the first ended; a failure that is thrown in them, or an end in
--- them, takes the place of that
+-- is active in them. After the last of them it goes on as the first ended; a failure that is thrown in them, or an end
+-- in them, takes the place of that
 abbrev pub finished : Meant → Option Failure → Flow → Flow
 finished second active (past v answers) = followed (second active Null answers) (λ w more. past v more)
 finished second active (thrown failure answers) =
@@ -149,6 +149,7 @@ result_of (thrown failure answers) = Over (Fault failure)
 result_of (left v answers) = Over v
 result_of (wants want) = Wants want
 
--- an inline body begins on null, with no active failure: it is over with a result, or it wants what there is no answer to
+-- an inline body begins on null, with no active failure: it is over with a result, or it wants what there is no answer
+-- to
 abbrev pub inline : List Class → List Statement → List Value → Reached
 inline table statements answers = result_of (all_meant table statements None Null answers)

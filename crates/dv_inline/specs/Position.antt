@@ -92,8 +92,8 @@ ahead (inside.Caught failure) = None
 ahead (inside.Finally second) = Some second
 ahead (inside.Ending how) = None
 
--- a failure that a `try` catches goes to its second statements. Where those of a `finally` are ahead it goes to them, to
--- be thrown on after them; else it goes outward
+-- a failure that a `try` catches goes to its second statements. Where those of a `finally` are ahead it goes to them,
+-- to be thrown on after them; else it goes outward
 abbrev pub thrown_to : Position → Failure → Option (List Statement) → Option (List Statement) → List Statement
     → List Open → Position → Position
 thrown_to outer failure (Some second) next rest opens p = into_second second (inside.Caught failure) rest opens p

@@ -65,7 +65,7 @@ impl<'s> Opens<'s> {
     /// Goes into one. On allocation failure, it is dropped.
     #[tactic(auto, using(dv_value::proofs::StackLemmas::last_first))]
     pub fn push(&mut self, around: Open<'s>) -> Result<(), AllocError>
-        ensures { OnOk result (self.new ≡ around ∷ self.old) }
+        ensures { OnOk result (self.new ≡ around.entry ∷ self.old) }
     {
         if self.items.reserve(1).is_err() {
             drop(around);
@@ -79,7 +79,7 @@ impl<'s> Opens<'s> {
     #[tactic(auto, using(dv_value::proofs::StackLemmas::last_first))]
     pub fn replace(&mut self, around: Open<'s>)
         requires { self.old ≢ [] }
-        ensures { self.new ≡ around ∷ drop 1 self.old }
+        ensures { self.new ≡ around.entry ∷ drop 1 self.old }
     {
         let _ = self.items.pop();
         self.items.push_reserved(around);
@@ -94,17 +94,17 @@ impl<'s> Opens<'s> {
 }
 
 /// The active failure inside of these, the innermost of which is the last.
-#[tactic(auto, using(dv_value::proofs::StackLemmas::last_first))]
+#[tactic(auto, using(crate::proofs::OpensLemmas::inner_last))]
 fn active_in<'o>(opens: &'o [Open<'_>]) -> Option<&'o Failure>
     ensures { MatchOption result (active (reverse opens.now) ≡ None)
         (λ f. active (reverse opens.now) ≡ Some f.now) }
 {
-    let mut inner = opens;
-    while let Some((around, outer)) = inner.split_last() {
-        if let Some(failure) = failure_of(around) {
+    let mut left = opens.len();
+    while left > 0 {
+        left -= 1;
+        if let Some(failure) = failure_of(&opens[left]) {
             return Some(failure);
         }
-        inner = outer;
     }
     None
 }

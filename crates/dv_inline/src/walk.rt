@@ -3,7 +3,8 @@ ghost use Rattle.std.specs.Prelude.{drop};
 ghost use Rattle.dv_inline.specs.Meaning.{ended, raised, no_active};
 ghost use Rattle.dv_inline.specs.Position.{started, moved, moved_by, over_with, outward, come};
 ghost use Rattle.dv_inline.specs.Position.{answered, want_at, class_caught, thrown_from, left_from};
-ghost use Rattle.dv_inline.specs.Position.{went_on, Moves, MovesTo, second_for, ahead, active, passed};
+ghost use Rattle.dv_inline.specs.Position.{went_on, Moves, MovesTo, second_for, ahead, active};
+ghost use Rattle.dv_inline.specs.Position.{passed};
 ghost use Rattle.dv_inline.specs.Position.{into, into_second, out_of, gone_on, caught_from};
 ghost use Rattle.dv_script.specs.declared.body.Statement.{out-Statement};
 ghost use Rattle.dv_value.specs.Failure.{failure_in};
@@ -252,7 +253,7 @@ impl<'s> Walk<'s> {
 
     /// On as the first statements of a `finally` ended, which this follows.
     fn go_on(&mut self, onward: Onward, rest: Statements<'s>)
-        ensures { self.new ≡ gone_on onward.entry rest.entry self.old }
+        ensures { self.new ≡ gone_on onward rest.entry self.old }
     {
         match onward {
             Onward::Past(value) => {

@@ -9,6 +9,9 @@ use dv_forms::words::{
 use serde_json::Value as Json;
 use std::alloc::AllocError;
 
+/// The first version whose inline bodies have the statements finally, raise and caught.
+const FINALLY_SINCE: u32 = 3;
+
 /// How the forms of a word are shown: most have one, and some two.
 #[derive(Clone, Copy, Drop)]
 pub struct Shown {
@@ -112,12 +115,19 @@ fn leaf_text(version: u32, leaf: Leaf) -> &'static str {
     }
 }
 
-fn call_text(call: Call) -> &'static str {
+fn statement_text(version: u32) -> &'static str {
+    if version < FINALLY_SINCE {
+        "a statement: an array of one of the words do, await, try and end, and its arguments"
+    } else {
+        "a statement: an array of one of the words do, await, try, finally, raise, caught and end, and its arguments"
+    }
+}
+
+fn call_text(version: u32, call: Call) -> &'static str {
     match call {
         Call::Event => "an event: an array of a word and its arguments",
         Call::Action => "an action: an array of a word and its arguments",
-        Call::Statement =>
-            "a statement: an array of one of the words do, await, try and end, and its arguments",
+        Call::Statement => statement_text(version),
         Call::End => {
             "an end: an array of one of the words return, pass, plus, raise, trap and wait, and its arguments"
         }
@@ -129,11 +139,19 @@ fn call_text(call: Call) -> &'static str {
     }
 }
 
-fn word_text(call: Call) -> &'static str {
+fn statement_word_text(version: u32) -> &'static str {
+    if version < FINALLY_SINCE {
+        "the word of a statement: do, await, try or end; finally, raise and caught from version 3 on"
+    } else {
+        "the word of a statement: do, await, try, finally, raise, caught or end"
+    }
+}
+
+fn word_text(version: u32, call: Call) -> &'static str {
     match call {
         Call::Event => "the word of an action, advance or drain",
         Call::Action => "the word of an action",
-        Call::Statement => "the word of a statement: do, await, try or end",
+        Call::Statement => statement_word_text(version),
         Call::End => "the word of an end: return, pass, plus, raise, trap or wait",
         Call::Leaving => "the word of an end of an inline body: return, pass, plus or raise",
         Call::Work => "the word of a work: value, raise or sum",
@@ -176,11 +194,11 @@ fn want_text(version: u32, want: Want) -> &'static str {
         Want::Leaf(leaf) => leaf_text(version, leaf),
         Want::Value =>
             "a value: null, true, false, an integer of 64 bits, a text or an array of values",
-        Want::Call(call) => call_text(call),
+        Want::Call(call) => call_text(version, call),
         Want::Pair(pair) => pair_text(pair),
         Want::Keyed(keyed) => keyed_text(keyed),
         Want::Array(item) => array_text(item),
-        Want::Word(call) => word_text(call),
+        Want::Word(call) => word_text(version, call),
         Want::Other(keyed) => keys_text(version, keyed),
     }
 }
