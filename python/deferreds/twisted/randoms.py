@@ -250,8 +250,10 @@ class Scripts:
 
     def _statement(self, depth: int) -> List[Any]:
         words: List[str] = ["do", "await", "await", "end"]
+        if self._is_third:
+            words += ["raise", "caught"]
         if depth <= _DEEPEST:
-            words.append("try")
+            words += ["try", "finally", "finally"] if self._is_third else ["try"]
         word: Optional[str] = self._random.choice(words)
         assert word is not None
         return [word, *self._arguments(grammar.STATEMENTS[word], depth)]
