@@ -1,5 +1,6 @@
 -- The moves of a body that need no answer: each leaves less of it, so that they end.
-use Rattle.std.proofs.Common.{◌≡◌, ℕ, zero, suc, ◌<◌, ◌≤◌, true, false, List, [], ◌∷◌, Option, None, Some, refl, arith}
+use Rattle.std.proofs.Common.{◌≡◌, ℕ, zero, suc, ◌+◌, ◌<◌, ◌≤◌, true, false, List, [], ◌∷◌, Option, None, Some, refl}
+use Rattle.std.proofs.Common.{arith}
 use Rattle.std.proofs.Common.{ap, ◌∙◌, sym, subst}
 use Rattle.dv_inline.specs.Meaning.{ended, no_active, raised}
 use Rattle.dv_inline.specs.Position.{Position, Moves, moved, moved_by, moved_in, moved_unless, outward, statement_step}

@@ -62,6 +62,14 @@ impl<'s> Opens<'s> {
         self.items.pop()
     }
 
+    /// Goes out of the innermost, where there is one, and drops it.
+    #[tactic(auto, using(dv_value::proofs::StackLemmas::last_first))]
+    pub fn discard(&mut self)
+        ensures { self.new ≡ drop 1 self.old }
+    {
+        drop(self.items.pop());
+    }
+
     /// Goes into one. On allocation failure, it is dropped.
     #[tactic(auto, using(dv_value::proofs::StackLemmas::last_first))]
     pub fn push(&mut self, around: Open<'s>) -> Result<(), AllocError>

@@ -166,7 +166,7 @@ impl<'s> Walk<'s> {
                 self.enter(second, Inside::Ending(Onward::Thrown(failure)), rest);
                 return;
             }
-            let _ = self.opens.pop();
+            self.opens.discard();
         }
         self.end(Value::Fault(failure));
     }
@@ -181,7 +181,7 @@ impl<'s> Walk<'s> {
                 self.enter(second, Inside::Ending(Onward::Left(outcome)), rest);
                 return;
             }
-            let _ = self.opens.pop();
+            self.opens.discard();
         }
         self.end(outcome);
     }

@@ -5,13 +5,13 @@ use Rattle.dv_inline.proofs.walk.Walk.throw.Given as goal
 -- from the tries and finallys that are left the failure goes where it went from all of them
 abbrev pub invariant-loop-around : goal.invariant-loop-around
 invariant-loop-around l = record {
-  same : thrown_from l.failure-inside.held.value l.self-inside.opens l.fn.self
+  same : thrown_from l.failure l.self.opens l.fn.self
       ≡ thrown_from l.fn.failure l.fn.self.opens l.fn.self;
-  classes : l.self-inside.classes ≡ l.fn.self.classes;
-  statements : l.self-inside.statements ≡ l.fn.self.statements;
-  value : l.self-inside.value ≡ l.fn.self.value;
-  result : l.self-inside.result ≡ l.fn.self.result;
+  classes : l.self.classes ≡ l.fn.self.classes;
+  statements : l.self.statements ≡ l.fn.self.statements;
+  value : l.self.value ≡ l.fn.self.value;
+  result : l.self.result ≡ l.fn.self.result;
 }
 
 abbrev pub decreases-loop-around : goal.decreases-loop-around
-decreases-loop-around l = length l.self-inside.opens
+decreases-loop-around l = length l.self.opens
