@@ -704,7 +704,8 @@ do_wanted i (Some (Do action)) p = act (Some i.of) action after_which goes_on_wi
 do_wanted i (Some (Await name)) p = await i name p
 
 -- goes on with an inline body: `come` moves it up to what it wants, or to its end, where it fires its Deferred with its
--- result
+-- result. On the way `raise` throws the active failure again, with `caught` a list of that is the present value, and an
+-- `end` leaves the body
 abbrev pub go_on : Inline → Position → Rule
 go_on i p =
     let now = come p in
