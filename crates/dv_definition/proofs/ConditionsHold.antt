@@ -28,7 +28,6 @@ use Rattle.dv_value.specs.Classes.{check}
 use Rattle.dv_value.specs.Failure.{class_of, failure_in}
 use Rattle.dv_value.specs.declared.failure.Failure.{Failure}
 use Rattle.dv_value.specs.declared.value.Value.{Value}
-use Rattle.dv_value.specs.declared.value.Value.TheVariants as value
 use Rattle.dv_world.specs.World.{World, end_reached, record_reached}
 
 -- cancelling
