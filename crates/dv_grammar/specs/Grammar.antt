@@ -10,7 +10,8 @@ use Rattle.dv_value.specs.declared.classes.Class.{Class}
 use Rattle.dv_script.specs.declared.body.End.{End}
 use Rattle.dv_script.specs.declared.body.End.TheVariants.{Return, Pass, Plus, Raise, Trap, Wait, Run, Throw}
 use Rattle.dv_script.specs.declared.body.Body.{Body}
-use Rattle.dv_script.specs.declared.body.Statement.{Statement, Do, Await, Try, End as Leave}
+use Rattle.dv_script.specs.declared.body.Statement.{Statement, Do, Await, Try, Finally}
+use Rattle.dv_script.specs.declared.body.Statement.{Raise as RaiseAgain, Caught, End as Leave}
 use Rattle.dv_script.specs.declared.work.Work.{Work}
 use Rattle.dv_script.specs.declared.action.ListFlag.{ListFlag}
 use Rattle.dv_script.specs.declared.action.GatherFlag.{GatherFlag}
@@ -272,6 +273,14 @@ mutual
     tries : (ds : Items) (c : Data) (hs : Items) (first : List Statement) (classes : List ℕ) (second : List Statement)
         → AreStatements table ds first → IsList (IsClass table) c classes → AreStatements table hs second
         → IsStatement table (call (codes "try") (array ds ∷ c ∷ array hs ∷ [])) (Try first classes second)
+    -- ["finally",[STATEMENT..],[STATEMENT..]]
+    finishes : (ds : Items) (hs : Items) (first : List Statement) (second : List Statement)
+        → AreStatements table ds first → AreStatements table hs second
+        → IsStatement table (call (codes "finally") (array ds ∷ array hs ∷ [])) (Finally first second)
+    -- ["raise"]
+    raises_again : IsStatement table (call (codes "raise") []) RaiseAgain
+    -- ["caught"]
+    takes_caught : IsStatement table (call (codes "caught") []) Caught
     -- ["end",END]
     leaves : (d : Data) (end : End) → IsEnd table d end → may_leave end ≡ true
         → IsStatement table (call (codes "end") (d ∷ [])) (Leave end)
@@ -402,6 +411,9 @@ abbrev pub statement_step : Statement-F Bool Bool Bool → Bool
 statement_step (Statement-F.Do action) = action
 statement_step (Statement-F.Await name) = true
 statement_step (Statement-F.Try first classes second) = list_all (λ b. b) first && list_all (λ b. b) second
+statement_step (Statement-F.Finally first second) = list_all (λ b. b) first && list_all (λ b. b) second
+statement_step Statement-F.Raise = true
+statement_step Statement-F.Caught = true
 statement_step (Statement-F.End end) = true
 
 -- of a body

@@ -7,7 +7,8 @@ use Rattle.dv_value.specs.declared.classes.Class.{Class}
 use Rattle.dv_script.specs.declared.body.End.{End}
 use Rattle.dv_script.specs.declared.body.End.TheVariants.{Return, Pass, Plus, Raise, Trap, Wait, Run, Throw}
 use Rattle.dv_script.specs.declared.body.Body.{Body}
-use Rattle.dv_script.specs.declared.body.Statement.{Statement, Do, Await, Try, End as Leave}
+use Rattle.dv_script.specs.declared.body.Statement.{Statement, Do, Await, Try, Finally}
+use Rattle.dv_script.specs.declared.body.Statement.{Raise as RaiseAgain, Caught, End as Leave}
 use Rattle.dv_script.specs.declared.work.Work.{Work}
 use Rattle.dv_script.specs.declared.work.Work.TheVariants as job
 use Rattle.dv_script.specs.declared.action.Action.{Action, Deferred, Callback, Errback, AddCallback, AddErrback}
@@ -196,6 +197,13 @@ statement_of table action inner statement.Do ds = one_of action Do ds
 statement_of table action inner statement.Await ds = one_of text_at Await ds
 statement_of table action inner statement.Try ds =
     three_of (list_at inner) (list_at (class_at table)) (list_at inner) Try ds
+statement_of table action inner statement.Finally ds = two_of (list_at inner) (list_at inner) Finally ds
+statement_of table action inner statement.Raise ds = do
+  _ ← none ds
+  Some RaiseAgain
+statement_of table action inner statement.Caught ds = do
+  _ ← none ds
+  Some Caught
 statement_of table action inner statement.End ds = one_of (leave_at table) Leave ds
 
 -- a statement, whose actions and statements are read so

@@ -16,7 +16,8 @@ use Rattle.dv_value.specs.declared.classes.Class.{Class}
 use Rattle.dv_script.specs.declared.body.End.{End}
 use Rattle.dv_script.specs.declared.body.End.TheVariants.{Return, Pass, Plus, Raise, Trap, Wait, Run, Throw}
 use Rattle.dv_script.specs.declared.body.Body.{Body}
-use Rattle.dv_script.specs.declared.body.Statement.{Statement, Do, Await, Try, End as Leave}
+use Rattle.dv_script.specs.declared.body.Statement.{Statement, Do, Await, Try, Finally}
+use Rattle.dv_script.specs.declared.body.Statement.{Raise as RaiseAgain, Caught, End as Leave}
 use Rattle.dv_script.specs.declared.work.Work.{Work}
 use Rattle.dv_script.specs.declared.work.Work.TheVariants as job_of
 use Rattle.dv_script.specs.declared.action.Action.{Action, Deferred, Callback, Errback, AddCallback, AddErrback}
@@ -53,7 +54,8 @@ use Rattle.dv_grammar.specs.Grammar.{resume_task, inline, thread, thread_in, uni
 use Rattle.dv_grammar.specs.Grammar.{no_actions, more_actions, IsDo}
 use Rattle.dv_grammar.specs.Grammar.{does_nothing, does, IsBody, body, body_by_name, running, AreBodies, no_bodies}
 use Rattle.dv_grammar.specs.Grammar.{more_bodies, IsStatement}
-use Rattle.dv_grammar.specs.Grammar.{performs, awaits, tries, leaves, AreStatements, no_statements, more_statements}
+use Rattle.dv_grammar.specs.Grammar.{performs, awaits, tries, finishes, raises_again, takes_caught, leaves}
+use Rattle.dv_grammar.specs.Grammar.{AreStatements, no_statements, more_statements}
 use Rattle.dv_grammar.specs.Grammar.{IsEvent, acts, advances, drains, IsDeclaration, declares, IsPool, pools}
 use Rattle.dv_grammar.specs.Grammar.{IsCooperator, IsScript, IsBound, IsNamedBody, names_body}
 use Rattle.dv_grammar.proofs.WordsLemmas.{◌&◌}
@@ -603,6 +605,15 @@ statements v n table r =
     let p = open_array v n item_of.Statement a.c a.three in
     let ys = statements_of table p.items (λ k e is. r.of_statement e (p.each k e is)) in
     rw (a.items, o.whole, p.whole) (Try xs.0 c.0 ys.0, tries o.items a.b p.items xs.0 c.0 ys.0 xs.1 c.1 ys.1)) &
+    (λ ds h.
+    let a = two_args v n (want.Array item_of.Statement) (want.Array item_of.Statement) ds h in
+    let o = open_array v n item_of.Statement a.a a.one in
+    let xs = statements_of table o.items (λ k e is. r.of_statement e (o.each k e is)) in
+    let p = open_array v n item_of.Statement a.b a.two in
+    let ys = statements_of table p.items (λ k e is. r.of_statement e (p.each k e is)) in
+    rw (a.items, o.whole, p.whole) (Finally xs.0 ys.0, finishes o.items p.items xs.0 ys.0 xs.1 ys.1)) &
+    (λ ds h. rw (no_args v n ds h) (RaiseAgain, raises_again)) &
+    (λ ds h. rw (no_args v n ds h) (Caught, takes_caught)) &
     (λ ds h.
     let a = one_arg v n (want.Call call_of.Leaving) ds h in
     let x = leave_fine v n table a.a a.fine in

@@ -9,6 +9,9 @@ use dv_forms::words::{
 use serde_json::Value as Json;
 use std::alloc::AllocError;
 
+/// The first version whose inline bodies have the statements finally, raise and caught.
+const FINALLY_SINCE: u32 = 3;
+
 /// How the forms of a word are shown: most have one, and some two.
 #[derive(Clone, Copy, Drop)]
 pub struct Shown {
@@ -135,12 +138,19 @@ fn leaving_text(version: u32) -> &'static str {
     }
 }
 
+fn statement_text(version: u32) -> &'static str {
+    if version < FINALLY_SINCE {
+        "a statement: an array of one of the words do, await, try and end, and its arguments"
+    } else {
+        "a statement: an array of one of the words do, await, try, finally, raise, caught and end, and its arguments"
+    }
+}
+
 fn call_text(version: u32, call: Call) -> &'static str {
     match call {
         Call::Event => "an event: an array of a word and its arguments",
         Call::Action => "an action: an array of a word and its arguments",
-        Call::Statement =>
-            "a statement: an array of one of the words do, await, try and end, and its arguments",
+        Call::Statement => statement_text(version),
         Call::End => end_text(version),
         Call::Leaving => leaving_text(version),
         Call::Work =>
@@ -164,11 +174,19 @@ fn leaving_word_text(version: u32) -> &'static str {
     }
 }
 
+fn statement_word_text(version: u32) -> &'static str {
+    if version < FINALLY_SINCE {
+        "the word of a statement: do, await, try or end; finally, raise and caught from version 3 on"
+    } else {
+        "the word of a statement: do, await, try, finally, raise, caught or end"
+    }
+}
+
 fn word_text(version: u32, call: Call) -> &'static str {
     match call {
         Call::Event => "the word of an action, advance or drain",
         Call::Action => "the word of an action",
-        Call::Statement => "the word of a statement: do, await, try or end",
+        Call::Statement => statement_word_text(version),
         Call::End => end_word_text(version),
         Call::Leaving => leaving_word_text(version),
         Call::Work => "the word of a work: value, raise or sum",

@@ -204,6 +204,8 @@ ENDS = _table("end")
 #: how an inline body may end
 INLINE_ENDS = _table("leaving")
 STATEMENTS = _table("statement")
+#: the first version that has a statement
+STATEMENTS_SINCE: Dict[str, int] = {row.word: row.since for row in LANGUAGE.at("statement")}
 WORKS = _table("work")
 
 #: the levels that a port can begin with, in order; each has the actions of those before it

@@ -274,11 +274,17 @@ class Scripts:
 
     def _statement(self, depth: int) -> List[Any]:
         words: List[str] = ["do", "await", "await", "end"]
+        if self._is_third:
+            words += ["raise", "caught"]
         if depth <= _DEEPEST:
-            words.append("try")
+            words += ["try", "finally", "finally"] if self._is_third else ["try"]
         word: Optional[str] = self._random.choice(words)
         assert word is not None
-        return [word, *self._arguments(grammar.STATEMENTS[word], depth)]
+        statement = [word, *self._arguments(grammar.STATEMENTS[word], depth)]
+        if self._is_third and word in ("try", "finally") and self._one_in(3):
+            # only a result shows what was caught
+            statement[-1] = [["caught"], ["end", ["pass"]]]
+        return statement
 
 
 def _holds_bodies(word: str) -> bool:
