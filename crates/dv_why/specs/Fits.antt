@@ -158,6 +158,7 @@ leaf_suits q l (Some name) = name_suits q l name
 abbrev pub body_name_suits : Question → Keyed → Option (List ℕ) → Bool
 body_name_suits q (keyed.Script version) name = true
 body_name_suits q keyed.Cooperator name = true
+body_name_suits q keyed.Failure name = true
 body_name_suits q keyed.Body name = leaf_suits q (leaf.Found of_object.Body) name
 
 -- whether what stands at a place is what is looked for, where the question is about names
