@@ -87,22 +87,7 @@ parts_good t f k c x ds h =
     both (t.word c x (here (part 0 h refl refl)))
     (arguments_good f (wants_of c x (count ds)) ds (λ n v e wants is. k v e (part (suc n) h wants is)))
 
-cbody_good : {q : Question} {a : Asked} → Tells q a → (o : Keyed) (x : List ℕ) → AllSuit q (want.Keyed o) (string x)
-    → name_suits a o x ≡ true
-body_good t (keyed.Script version) x h = refl
-body_good t keyed.Cooperator x h = refl
-body_good t keyed.Body x h = t.body x (here h)
-
-name_good : {q : Question} {a : Asked} → Tells q a → (o : Keyed) (d : Data) → AllSuit q (want.Keyed o) d
-    → if_there (name_suits a o) (as_str d) ≡ true
-name_good t o (string x) h = body_good t o x h
-name_good t o null h = refl
-name_good t o (boolean b) h = refl
-name_good t o (number n) h = refl
-name_good t o (array ds) h = refl
-name_good t o (object ms) h = refl
-
-all_good : {q : Question} {a : Asked} → Tells q a → (f : Want → Data → Bool) → Goods q f → (c : Call) (ds : Items)
+call_good : {q : Question} {a : Asked} → Tells q a → (f : Want → Data → Bool) → Goods q f → (c : Call) (ds : Items)
     → AllSuit q (want.Call c) (array ds) → call_suits a f c ds ≡ true
 call_good t f k c no_items h = refl
 call_good t f k c (item (string x) ds) h = parts_good t f k c x ds h
