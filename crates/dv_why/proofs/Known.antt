@@ -25,7 +25,7 @@ use Rattle.dv_questions.specs.Questions.{has_object}
 use Rattle.dv_forms.specs.declared.versions.TheConstants.{BODIES_SINCE, COMMENTS_SINCE}
 use Rattle.dv_forms.specs.declared.want.Leaf.{Leaf}
 use Rattle.dv_forms.specs.declared.want.Leaf.TheVariants as leaf
-use Rattle.dv_forms.specs.declared.want.Object.TheVariants as object
+use Rattle.dv_forms.specs.declared.want.Object.TheVariants as object_of
 use Rattle.dv_reader.specs.Limits.{is_small}
 use Rattle.dv_reader.specs.Refusal.{answers, are_named, are_known, are_distinct, are_pooled, have_own_names}
 use Rattle.dv_reader.specs.Refusal.{have_bodies}
@@ -85,7 +85,7 @@ classes_asked (question.Classes given) d table of same =
       leaf = λ l x h. ap (λ t. is_known t l x) (sym (of ∙ same)) ∙ h;
       word = λ c x h. refl;
       object = λ k e h. refl;
-      body = λ x h. ap (λ t. is_known t (leaf.Found object.Body) x) (sym (of ∙ same)) ∙ h;
+      body = λ x h. ap (λ t. is_known t (leaf.Found object_of.Body) x) (sym (of ∙ same)) ∙ h;
     }
 classes_asked (question.Pools ps) d table of same = absurd of
 classes_asked (question.Bodies bs) d table of same = absurd of
@@ -348,9 +348,12 @@ leaf_stands v leaf.GatherFlag x h = refl
 
 -- an object that fits may stand in its version
 keyed_stands : (v : ℕ) (k : Keyed) (d : Data) → fits v (want.Keyed k) d ≡ true → object_stands v k ≡ true
-keyed_stands v k d h =
-    let p = and_parts (is_some (as_object d) && object_stands v k) (has_keys k d) h in
-    (and_parts (is_some (as_object d)) (object_stands v k) p.0).1
+keyed_stands v (keyed.Script version) d h = refl
+keyed_stands v keyed.Cooperator d h = refl
+keyed_stands v keyed.Body d h = refl
+keyed_stands v keyed.Failure d h =
+    let p = and_parts (is_some (as_object d) && object_stands v keyed.Failure) (has_keys keyed.Failure d) h in
+    (and_parts (is_some (as_object d)) (object_stands v keyed.Failure) p.0).1
 
 shape_asked : (v w : ℕ) → v ≡ w → Tells (question.Shape v) (words w)
 shape_asked v w same =

@@ -8,7 +8,7 @@ use Rattle.dv_forms.specs.declared.want.Want.TheVariants as want
 use Rattle.dv_forms.specs.declared.want.Leaf.{Leaf}
 use Rattle.dv_forms.specs.declared.want.Call.{Call}
 use Rattle.dv_forms.specs.declared.want.Leaf.TheVariants as leaf_of
-use Rattle.dv_forms.specs.declared.want.Object.TheVariants as object
+use Rattle.dv_forms.specs.declared.want.Object.TheVariants as object_of
 use Rattle.dv_forms.specs.declared.want.Keyed.{Keyed}
 use Rattle.dv_forms.specs.declared.want.Keyed.TheVariants as keyed
 use Rattle.dv_forms.specs.Parts.{call_at}
@@ -29,7 +29,7 @@ pub record Tells (q : Question) (a : Asked) : Type 0 where
   pub leaf : (l : Leaf) (x : List ℕ) → suits q (want.Leaf l) (string x) ≡ true → a.of_leaf l x ≡ true
   pub word : (c : Call) (x : List ℕ) → suits q (want.Word c) (string x) ≡ true → a.of_word c x ≡ true
   pub object : (k : Keyed) (d : Data) → suits q (want.Keyed k) d ≡ true → a.of_object k ≡ true
-  pub body : (x : List ℕ) → suits q a_body (string x) ≡ true → a.of_leaf (leaf_of.Found object.Body) x ≡ true
+  pub body : (x : List ℕ) → suits q a_body (string x) ≡ true → a.of_leaf (leaf_of.Found object_of.Body) x ≡ true
 
 -- what each part answers well is good
 abbrev Goods : Question → (Want → Data → Bool) → Type 0
