@@ -56,6 +56,7 @@ def all_scripts() -> list[Script]:
         script("loop_and_later"),
         script("held_task"),
         script("inline_catches"),
+        script("inline_finally"),
         script("inline_goes_on"),
         script("inline_is_cancelled"),
         script("jobs"),

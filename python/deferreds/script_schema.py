@@ -2,7 +2,8 @@
 
 An editor that has it completes and checks a script while it is typed. It says what the program refuses as BadShape, BadName and
 TooMany, as far as a schema can. Left to the program are: which names are bound or declared; that `1.0` is no integer; words,
-comments of bodies, failures in values and marks in names that the version of the script doesn't have; all advances together; the size of the whole text.
+comments of bodies, names in place of bodies, failures in values and marks in names that the version of the script doesn't have;
+all advances together; the size of the whole text.
 """
 
 from __future__ import annotations
@@ -104,6 +105,12 @@ class _Maker:
         least = min(len(row.arguments) for row in rows) + 1
         return {"title": " or ".join(row.text for row in rows), **_fixed(parts), "minItems": least}
 
+    def either(self, name: str) -> Schema:
+        """What stands where an object is asked for: a body may be the name of one that is declared."""
+        if name != "body":
+            return self.object(name)
+        return {"anyOf": [self.object(name), self._name({"of": name})]}
+
     def object(self, name: str) -> Schema:
         """An object of the language: the script, its `cooperator`, a body, a failure in a value."""
         keys = self._language.keys_of(name)
@@ -171,7 +178,7 @@ def schema_of(language: Language) -> Schema:
         **maker.later(),
         "$defs": {
             **maker.names(),
-            **{name: maker.object(name) for name in objects},
+            **{name: maker.either(name) for name in objects},
             **{place: maker.place(place) for place in places},
         },
     }

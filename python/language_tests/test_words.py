@@ -56,7 +56,7 @@ _FITTING: Dict[str, Callable[[Form], List[Json]]] = {
     "new": lambda form: ["a", "b_1", "0-.:", "n" * LANGUAGE.limits["name"]],
     "found": lambda form: _FOUND.get(form["of"], ["a"]),
     "flag": lambda form: list(form["words"]),
-    "object": lambda form: [_BODY, {}],
+    "object": lambda form: [_BODY, {}, "f"],
     "words": lambda form: [_SAMPLES[form["of"]]],
     "array": lambda form: [[], _fitting(form["of"]), [_first(form["of"])] * 3],
     "pair": lambda form: [[_first(part) for part in form["parts"]]],
@@ -126,6 +126,8 @@ def _misnamed_bodies() -> List[Case]:
         Case({"end": ["wait", ""]}, "BadName"),
         Case({"end": ["raise", "Zed", ""]}, "BadClass"),
         Case({"do": [["errback", "a", "Zed", ""]]}, "BadClass"),
+        *[Case(name, "BadName") for name in ("", "a b", "@", "-f")],
+        Case("g", "BadBody"),
     ]
 
 

@@ -4,11 +4,15 @@ use Rattle.std.proofs.Common.{Option, None, Some, slice_get, slice_set, nat_eq, 
 use Rattle.std.specs.Option.{option_map, option_map_or}
 use Rattle.dv_clock.specs.Clock.{Upcoming, due_at, first_from, first_of, upcoming}
 use Rattle.dv_clock.specs.declared.call.Call.{Call}
-use Rattle.dv_definition.specs.Conditions.{CallsComeInTurn, CancelsReach, FailuresAreThrown, ListsFire}
+use Rattle.dv_definition.specs.Conditions.{CallsComeInTurn, CancelsReach, EndsLeave, FailuresAreThrown, ListsFire}
 use Rattle.dv_definition.specs.Definition.{all_came, caught_by, earlier, end_of_waiting, first_call, reached_by}
+use Rattle.dv_definition.specs.Definition.{second_of, still_to_run}
 use Rattle.dv_definition.specs.Rule.{found}
-use Rattle.dv_inline.specs.Position.{Position, class_caught, second_for, thrown_from, thrown_to}
+use Rattle.dv_inline.specs.Position.{Position, ahead, class_caught, left_to, second_for, thrown_to}
 use Rattle.dv_inline.specs.declared.open.Catch.{Catch}
+use Rattle.dv_inline.specs.declared.open.Inside.{Inside}
+use Rattle.dv_inline.specs.declared.open.Inside.TheVariants as inside
+use Rattle.dv_inline.specs.declared.open.Onward.TheVariants as onward
 use Rattle.dv_inline.specs.declared.open.Open.{Open}
 use Rattle.dv_objects.specs.Pair.{Pair}
 use Rattle.dv_objects.specs.Reached.{reached_unfired}
@@ -20,11 +24,10 @@ use Rattle.dv_prims.specs.DeferredList.{first_failure, first_success, kept_of, s
 use Rattle.dv_script.specs.declared.body.Statement.{Statement}
 use Rattle.dv_store.specs.Cancelling.{link, walk}
 use Rattle.dv_store.specs.declared.record.Record.{Record}
-use Rattle.dv_value.specs.Failure.{failure_in}
-use Rattle.dv_value.specs.declared.classes.Class.{Class}
+use Rattle.dv_value.specs.Classes.{check}
+use Rattle.dv_value.specs.Failure.{class_of, failure_in}
 use Rattle.dv_value.specs.declared.failure.Failure.{Failure}
 use Rattle.dv_value.specs.declared.value.Value.{Value}
-use Rattle.dv_value.specs.declared.value.Value.TheVariants as value
 use Rattle.dv_world.specs.World.{World, end_reached, record_reached}
 
 -- cancelling
@@ -127,25 +130,40 @@ calls_come w =
     ∙ due_same w.objects.clock.time (first_call 0 w.objects.clock.calls)
 
 -- inline bodies
-second_same : (o : Option ℕ) (catch : Catch) → second_for o (Some catch) ≡ option_map (λ class. catch.second) o
-second_same None catch = refl
-second_same (Some class) catch = refl
+try_same : (o : Option ℕ) (catch : Catch) (failure : Failure) (outer again : Position) (rest : List Statement)
+    (opens : List Open) (p : Position) → outer ≡ again
+    → thrown_to outer failure (second_for o (inside.Try catch)) None rest opens p
+    ≡ found (option_map (λ class. catch.second) o) again (λ second.
+    second_of second (inside.Caught failure) rest opens p)
+try_same None catch failure outer again rest opens p e = e
+try_same (Some class) catch failure outer again rest opens p e = refl
 
-caught_same : (classes : List Class) (failure : Failure) (o : Option Catch)
-    → second_for (class_caught classes failure o) o ≡ caught_by classes failure o
-caught_same classes failure None = refl
-caught_same classes failure (Some catch) = second_same _ catch
-
-to_same : (outer again : Position) (o : Option (List Statement)) (rest : List Statement) (tries : List Open)
+thrown_same : (place : Inside) (failure : Failure) (outer again : Position) (rest : List Statement) (opens : List Open)
     (p : Position) → outer ≡ again
-    → thrown_to outer o rest tries p ≡ found o again (λ second.
-    record p { statements = second; tries = record { catch = None; rest = rest } ∷ tries; value = value.Null })
-to_same outer again None rest tries p e = e
-to_same outer again (Some second) rest tries p e = refl
+    → thrown_to outer failure (second_for (class_caught p.classes failure place) place) (ahead place) rest opens p
+    ≡ found (caught_by p.classes failure place)
+    (found (still_to_run place) again (λ second. second_of second (inside.Ending (onward.Thrown failure)) rest opens p))
+    (λ second. second_of second (inside.Caught failure) rest opens p)
+thrown_same (inside.Try catch) failure outer again rest opens p e =
+    try_same (check p.classes (class_of failure) catch.classes) catch failure outer again rest opens p e
+thrown_same (inside.Caught other) failure outer again rest opens p e = e
+thrown_same (inside.Finally second) failure outer again rest opens p e = refl
+thrown_same (inside.Ending how) failure outer again rest opens p e = e
 
 pub failures_thrown : FailuresAreThrown
-failures_thrown classes failure [] p = refl
-failures_thrown classes failure (around ∷ tries) p =
-    ap (λ o. thrown_to (thrown_from classes failure tries p) o around.rest tries p)
-    (caught_same classes failure around.catch)
-    ∙ to_same _ _ (caught_by classes failure around.catch) around.rest tries p (failures_thrown classes failure tries p)
+failures_thrown failure [] p = refl
+failures_thrown failure (around ∷ opens) p =
+    thrown_same around.inside failure _ _ around.rest opens p (failures_thrown failure opens p)
+
+left_same : (place : Inside) (v : Value) (outer again : Position) (rest : List Statement) (opens : List Open)
+    (p : Position) → outer ≡ again
+    → left_to outer v (ahead place) rest opens p
+    ≡ found (still_to_run place) again (λ second. second_of second (inside.Ending (onward.Left v)) rest opens p)
+left_same (inside.Try catch) v outer again rest opens p e = e
+left_same (inside.Caught failure) v outer again rest opens p e = e
+left_same (inside.Finally second) v outer again rest opens p e = refl
+left_same (inside.Ending how) v outer again rest opens p e = e
+
+pub ends_leave : EndsLeave
+ends_leave v [] p = refl
+ends_leave v (around ∷ opens) p = left_same around.inside v _ _ around.rest opens p (ends_leave v opens p)

@@ -98,7 +98,7 @@ EndedTasksStay = (t e : ℕ) (w : World) → is_over t w ≡ true → run (step_
 abbrev pub NameErrorsAreThrown : Type 0
 NameErrorsAreThrown =
     (i : Inline) (name : List ℕ) (p : Position) (w : World) → deferred_at (Some i.of) name w ≡ None
-    → run (await i name p) w ≡ (frame.Inline (Goes i (answered w.classes (fault name_error name) p)) ∷ [], Done, w)
+    → run (await i name p) w ≡ (frame.Inline (Goes i (answered (fault name_error name) p)) ∷ [], Done, w)
 
 -- one job more than a run may have is refused
 abbrev pub ManyJobsAreRefused : Type 0

@@ -3,8 +3,8 @@ use Rattle.std.specs.Prelude.{◌≡◌, ℕ, List}
 use Rattle.dv_clock.specs.Clock.{Clock, next_call}
 use Rattle.dv_clock.specs.Turns.{Turns, turn_of}
 use Rattle.dv_definition.specs.Definition.{has_to_wait, list_fires_with, may_be_used, next_due, next_turn_at}
-use Rattle.dv_definition.specs.Definition.{task_in_turn, thrown, whom_reaches}
-use Rattle.dv_inline.specs.Position.{Position, thrown_from}
+use Rattle.dv_definition.specs.Definition.{left, task_in_turn, thrown, whom_reaches}
+use Rattle.dv_inline.specs.Position.{Position, left_from, thrown_from}
 use Rattle.dv_inline.specs.declared.open.Open.{Open}
 use Rattle.dv_objects.specs.Looping.{next_due as turn_due}
 use Rattle.dv_objects.specs.Pair.{Pair}
@@ -14,7 +14,6 @@ use Rattle.dv_prims.specs.DeferredList.{Gather, due}
 use Rattle.dv_store.specs.Callbacks.{is_ready}
 use Rattle.dv_store.specs.Chaining.{is_pending}
 use Rattle.dv_store.specs.declared.record.Record.{Record}
-use Rattle.dv_value.specs.declared.classes.Class.{Class}
 use Rattle.dv_value.specs.declared.failure.Failure.{Failure}
 use Rattle.dv_value.specs.declared.value.Value.{Value}
 use Rattle.dv_world.specs.World.{World, reached_from}
@@ -50,5 +49,8 @@ TasksTakeTurns = (t : Turns) → turn_of t ≡ task_in_turn t
 -- a failure is thrown to where it is caught
 abbrev pub FailuresAreThrown : Type 0
 FailuresAreThrown =
-    (classes : List Class) (failure : Failure) (tries : List Open) (p : Position)
-    → thrown_from classes failure tries p ≡ thrown classes failure tries p
+    (failure : Failure) (opens : List Open) (p : Position) → thrown_from failure opens p ≡ thrown failure opens p
+
+-- and an end leaves the body by way of each `finally`
+abbrev pub EndsLeave : Type 0
+EndsLeave = (v : Value) (opens : List Open) (p : Position) → left_from v opens p ≡ left v opens p

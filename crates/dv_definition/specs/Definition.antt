@@ -35,7 +35,9 @@ use Rattle.dv_frames.specs.declared.frame.Frame.{Frame}
 use Rattle.dv_frames.specs.declared.frame.Purpose.{Purpose}
 use Rattle.dv_frames.specs.declared.frame.Purpose.TheVariants.{Named, Holding, Turning}
 use Rattle.dv_inline.specs.Position.{Position, started, answered, come, want_at}
-use Rattle.dv_inline.specs.declared.open.Catch.{Catch}
+use Rattle.dv_inline.specs.declared.open.Inside.{Inside}
+use Rattle.dv_inline.specs.declared.open.Inside.TheVariants as inside
+use Rattle.dv_inline.specs.declared.open.Onward.TheVariants as onward
 use Rattle.dv_inline.specs.declared.open.Open.{Open}
 use Rattle.dv_inline.specs.declared.want.Want.{Want}
 use Rattle.dv_inline.specs.declared.want.Want.TheVariants.{Do, Await}
@@ -476,30 +478,56 @@ tick units = If (nat_eq units 0) tick_ended (step_of_tick (units - 1))
 -- makes the Deferred of an inline body, and begins the body
 abbrev pub inline : List ℕ → List Statement → Rule
 inline name statements =
+    all_classes λ classes.
     next_inline_body λ id.
     next_deferred λ d.
     AddInline next
     Make (Some name) (Some (canceller.Inline id)) next
-    calls (goes_on (record { id = id; of = d }) (started statements))
+    calls (goes_on (record { id = id; of = d }) (started classes statements))
 
 -- what follows where a `try` catches a failure: its second statements
-abbrev pub caught_by : List Class → Failure → Option Catch → Option (List Statement)
-caught_by classes failure None = None
-caught_by classes failure (Some catch) =
+abbrev pub caught_by : List Class → Failure → Inside → Option (List Statement)
+caught_by classes failure (inside.Try catch) =
     option_map (λ class. catch.second) (check classes (class_of failure) catch.classes)
+caught_by classes failure (inside.Caught other) = None
+caught_by classes failure (inside.Finally second) = None
+caught_by classes failure (inside.Ending how) = None
 
--- where a body goes on when a failure is thrown: in the innermost `try` that catches it, with its second statements, on
--- null. If none does, the body ends with the failure. `answered` goes by this (Twisted: `inlineCallbacks`, but
--- `end-in-a-try`)
-abbrev pub thrown : List Class → Failure → List Open → Position → Position
-thrown classes failure [] p = record p { tries = []; value = Null; result = Some (Fault failure) }
-thrown classes failure (around ∷ tries) p =
-    found (caught_by classes failure around.catch) (thrown classes failure tries p) λ second.
-    record p { statements = second; tries = record { catch = None; rest = around.rest } ∷ tries; value = Null }
+-- the second statements of a `finally` whose first ones it is in
+abbrev pub still_to_run : Inside → Option (List Statement)
+still_to_run (inside.Try catch) = None
+still_to_run (inside.Caught failure) = None
+still_to_run (inside.Finally second) = Some second
+still_to_run (inside.Ending how) = None
+
+-- the second statements of a `try` or a `finally`, on null, inside which it is so from now on
+abbrev pub second_of : List Statement → Inside → List Statement → List Open → Position → Position
+second_of second place rest opens p =
+    record p { statements = second; opens = record { inside = place; rest = rest } ∷ opens; value = Null }
+
+-- where a body goes on when a failure is thrown: in the innermost `try` that catches it, with its second statements, in
+-- which the failure is active. A `finally` on the way there runs its second statements first, and the failure is thrown
+-- on after them. If nothing catches it, the body ends with the failure. `answered` goes by this (Twisted:
+-- `inlineCallbacks`, but `end-in-a-try`)
+abbrev pub thrown : Failure → List Open → Position → Position
+thrown failure [] p = record p { opens = []; value = Null; result = Some (Fault failure) }
+thrown failure (around ∷ opens) p =
+    found (caught_by p.classes failure around.inside)
+    (found (still_to_run around.inside) (thrown failure opens p) λ second.
+    second_of second (inside.Ending (onward.Thrown failure)) around.rest opens p) λ second.
+    second_of second (inside.Caught failure) around.rest opens p
+
+-- where it goes on when an end leaves it: it is over with what the end gives. A `finally` on the way runs its second
+-- statements first
+abbrev pub left : Value → List Open → Position → Position
+left v [] p = record p { opens = []; value = Null; result = Some v }
+left v (around ∷ opens) p =
+    found (still_to_run around.inside) (left v opens p) λ second.
+    second_of second (inside.Ending (onward.Left v)) around.rest opens p
 
 -- goes on with an answer
 abbrev pub go_with : Inline → Value → Position → Rule
-go_with i answer p = all_classes λ classes. calls (goes_on i (answered classes answer p))
+go_with i answer p = calls (goes_on i (answered answer p))
 
 -- goes on so, if there is an answer; else nothing is done
 abbrev pub go_where : Inline → Option (Position × Value) → Rule
@@ -701,7 +729,8 @@ do_wanted i (Some (Do action)) p = act (Some i.of) action after_which goes_on_wi
 do_wanted i (Some (Await name)) p = await i name p
 
 -- goes on with an inline body: `come` moves it up to what it wants, or to its end, where it fires its Deferred with its
--- result
+-- result. On the way `raise` throws the active failure again, with `caught` a list of that is the present value, and an
+-- `end` leaves the body
 abbrev pub go_on : Inline → Position → Rule
 go_on i p =
     let now = come p in

@@ -7,7 +7,8 @@ ghost use Rattle.dv_definition.specs.Cases.{FiredListsStay, FiringsEndTimers, Fu
 ghost use Rattle.dv_definition.specs.Cases.{ManyJobsAreRefused, NameErrorsAreThrown, PairsAreUsed};
 ghost use Rattle.dv_definition.specs.Cases.{ReceiversComeFirst, TokensAreWaitedFor, TurnsFollow};
 ghost use Rattle.dv_definition.specs.Conditions.{CallsComeInTurn, CancelsReach};
-ghost use Rattle.dv_definition.specs.Conditions.{DeferredsWaitWhenTheyHaveTo, FailuresAreThrown};
+ghost use Rattle.dv_definition.specs.Conditions.{DeferredsWaitWhenTheyHaveTo, EndsLeave};
+ghost use Rattle.dv_definition.specs.Conditions.{FailuresAreThrown};
 ghost use Rattle.dv_definition.specs.Conditions.{ItemsAreUsedWhenTheyMay, ListsFire};
 ghost use Rattle.dv_definition.specs.Conditions.{TasksTakeTurns, TurnsAreDue};
 ghost use Rattle.dv_definition.specs.Law.{FramesSayTheRule, FramesSayWhatHappens};
@@ -15,7 +16,7 @@ ghost use Rattle.dv_definition.specs.Law.{FramesSayTheRule, FramesSayWhatHappens
 /// The steps of the world go by the conditions that stand on the page: when an item is used, when a
 /// Deferred is waited for, whom a cancel reaches, when a list is fired and with what, which call
 /// runs next, when a loop's turn is due, whose turn it is among tasks, and where a failure is
-/// thrown in an inline body.
+/// thrown in an inline body, or an end leaves it.
 pub fn steps_go_by_the_page()
     ensures used { ItemsAreUsedWhenTheyMay }
     ensures waited { DeferredsWaitWhenTheyHaveTo }
@@ -25,6 +26,7 @@ pub fn steps_go_by_the_page()
     ensures turned { TurnsAreDue }
     ensures stepped { TasksTakeTurns }
     ensures thrown { FailuresAreThrown }
+    ensures left { EndsLeave }
 {}
 
 /// The frames that a rule leaves lead where the rule says, whatever frames mean; and so do those

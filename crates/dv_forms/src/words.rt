@@ -67,6 +67,9 @@ pub enum StatementWord {
     Do,
     Await,
     Try,
+    Finally,
+    Raise,
+    Caught,
     End,
 }
 
@@ -435,7 +438,7 @@ pub const EVENT_FORMS: [Form<EventWord>; 2] = [
 ];
 
 /// The forms of the statements of inline bodies.
-pub const STATEMENT_FORMS: [Form<StatementWord>; 4] = [
+pub const STATEMENT_FORMS: [Form<StatementWord>; 7] = [
     (
         StatementWord::Do,
         "do",
@@ -457,6 +460,15 @@ pub const STATEMENT_FORMS: [Form<StatementWord>; 4] = [
         "[\"try\",[STATEMENT..],[CLASS..],[STATEMENT..]]",
         1,
     ),
+    (
+        StatementWord::Finally,
+        "finally",
+        &[STATEMENTS, STATEMENTS],
+        "[\"finally\",[STATEMENT..],[STATEMENT..]]",
+        3,
+    ),
+    (StatementWord::Raise, "raise", &[], "[\"raise\"]", 3),
+    (StatementWord::Caught, "caught", &[], "[\"caught\"]", 3),
     (
         StatementWord::End,
         "end",
@@ -777,6 +789,9 @@ impl StatementWord {
             "do" => Some(StatementWord::Do),
             "await" => Some(StatementWord::Await),
             "try" => Some(StatementWord::Try),
+            "finally" => Some(StatementWord::Finally),
+            "raise" => Some(StatementWord::Raise),
+            "caught" => Some(StatementWord::Caught),
             "end" => Some(StatementWord::End),
             _ => None,
         }

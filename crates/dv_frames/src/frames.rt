@@ -55,6 +55,7 @@ impl<'s> Model for Frames<'s> {
     ghost use Rattle.dv_script.specs.contracts.action.Action as action_contract;
     ghost use Rattle.dv_script.specs.contracts.body.Body as body_contract;
     ghost use Rattle.dv_script.specs.contracts.body.Statement as statement_contract;
+    ghost use Rattle.dv_value.specs.contracts.classes.Class as class_contract;
     ghost use Rattle.dv_value.specs.contracts.failure.Failure as failure_contract;
     ghost use Rattle.dv_value.specs.contracts.value.Value as value_contract;
     ghost use Rattle.std.specs.Coded.{codes};
@@ -66,6 +67,7 @@ impl<'s> Model for Frames<'s> {
       action_contract.the_row.coded,
       body_contract.the_row.coded,
       statement_contract.the_row.coded,
+      class_contract.the_row.coded,
       failure_contract.the_row.coded,
       value_contract.the_row.coded,
     ) };

@@ -4,11 +4,12 @@ use Rattle.std.proofs.Common.{◌≡◌, ℕ, zero, suc, ◌≤◌, Bool, true, 
 use Rattle.std.proofs.Common.{codes, inl, inr, nat_cmp, arith, map, min, max, nat_eq}
 use Rattle.serde_json.specs.Data.{Data, string, array, object, Items, no_items, item, Members, no_members, member}
 use Rattle.serde_json.specs.Data.{depth, items_depth, members_depth}
-use Rattle.serde_json.specs.Find.{as_bool, as_array, get_member}
+use Rattle.serde_json.specs.Find.{as_bool, as_array, as_str, get_member}
 use Rattle.dv_value.specs.declared.classes.Class.{Class}
 use Rattle.dv_script.specs.declared.body.End.TheVariants.{Pass}
 use Rattle.dv_script.specs.declared.body.Body.{Body, map-Body, out-Body}
-use Rattle.dv_script.specs.declared.body.Statement.{Statement, Do, Await, Try, End as Leave, map-Statement}
+use Rattle.dv_script.specs.declared.body.Statement.{Statement, Do, Await, Try, Finally, map-Statement}
+use Rattle.dv_script.specs.declared.body.Statement.{Raise as RaiseAgain, Caught, End as Leave}
 use Rattle.dv_script.specs.declared.body.Statement.{out-Statement}
 use Rattle.dv_script.specs.declared.action.Action.{Action, Deferred, Callback, Errback, AddCallback, AddErrback}
 use Rattle.dv_script.specs.declared.action.Action.{AddBoth, AddCallbacks, Chain, Pause, Unpause, Cancel, AddTimeout}
@@ -31,20 +32,24 @@ use Rattle.dv_grammar.specs.Grammar.{cancel_call, reset_call, delay_call, loop, 
 use Rattle.dv_grammar.specs.Grammar.{pause_task, stop_task}
 use Rattle.dv_grammar.specs.Grammar.{resume_task, inline, thread, thread_in, units, AreActions, no_actions}
 use Rattle.dv_grammar.specs.Grammar.{more_actions, IsDo}
-use Rattle.dv_grammar.specs.Grammar.{does_nothing, does, IsBody, body, AreBodies, no_bodies, more_bodies, IsStatement}
-use Rattle.dv_grammar.specs.Grammar.{performs, awaits, tries, leaves, AreStatements, no_statements, more_statements}
+use Rattle.dv_grammar.specs.Grammar.{does_nothing, does, IsBody, body, body_by_name, running, AreBodies, no_bodies}
+use Rattle.dv_grammar.specs.Grammar.{more_bodies, IsStatement}
+use Rattle.dv_grammar.specs.Grammar.{performs, awaits, tries, finishes, raises_again, takes_caught, leaves}
+use Rattle.dv_grammar.specs.Grammar.{AreStatements, no_statements, more_statements}
 use Rattle.dv_grammar.specs.Grammar.{is_delay, is_interval, action_step, body_step, statement_step, times_action}
 use Rattle.dv_grammar.specs.Grammar.{times_body, times_statement}
 use Rattle.dv_forms.specs.Parts.{value_at, each, list_at, text_at, number_at, bound_at, class_at, list_flag_at}
 use Rattle.dv_forms.specs.Parts.{gather_flag_at, call_at, none, first, if_any, one, one_or_two, two, three, four, five}
 use Rattle.dv_forms.specs.Parts.{sole, pair, triple, one_of, two_of, three_of, fields_at, field, if_there}
 use Rattle.dv_grammar.specs.Shape.{end_at, leave_at, work_at, Readers, action_with, action_by, action_of}
-use Rattle.dv_grammar.specs.Shape.{new_deferred_of, thread_in_of, loop_of, body_by, statement_by, statement_of, readers}
+use Rattle.dv_grammar.specs.Shape.{new_deferred_of, thread_in_of, loop_of, by_name_or, keyed_body_by, body_by}
+use Rattle.dv_grammar.specs.Shape.{statement_by, statement_of, readers}
 use Rattle.dv_grammar.specs.Shape.{body_at, action_at, statement_at}
 use Rattle.dv_grammar.proofs.Steps.{some_injective, bind, mapped, picked}
 use Rattle.dv_grammar.proofs.WordsLemmas.{◌&◌, EachWord, found_word}
 use Rattle.std.specs.Cmp.Lexicographic.{slice_cmp}
-use Rattle.dv_grammar.proofs.Leaves.{first_is, four_is, five_is, any_is, call_is, one_read, two_read, three_read}
+use Rattle.dv_grammar.proofs.Leaves.{none_is, first_is, four_is, five_is, any_is, call_is, one_read, two_read}
+use Rattle.dv_grammar.proofs.Leaves.{three_read}
 use Rattle.dv_grammar.proofs.Leaves.{text_is, boolean_is, array_is, number_is, bound_is, class_is, list_flag_is}
 use Rattle.dv_grammar.proofs.Leaves.{gather_flag_is, sound_value, sound_list, sound_field, fields_is, sound_end}
 use Rattle.dv_grammar.proofs.Leaves.{sound_leave, sound_work, complete_value, complete_list, complete_field}
@@ -63,7 +68,8 @@ use Rattle.dv_script.specs.declared.action.Action.TheVariants.{outs-ResetCall, o
 use Rattle.dv_script.specs.declared.action.Action.TheVariants.{outs-Loop, outs-StopLoop, outs-Cooperate, outs-WhenDone}
 use Rattle.dv_script.specs.declared.action.Action.TheVariants.{outs-PauseTask, outs-StopTask, outs-ResumeTask}
 use Rattle.dv_script.specs.declared.action.Action.TheVariants.{outs-Inline, outs-Thread, outs-ThreadIn, outs-Units}
-use Rattle.dv_script.specs.declared.body.Statement.TheVariants.{outs-Do, outs-Await, outs-Try, outs-End}
+use Rattle.dv_script.specs.declared.body.Statement.TheVariants.{outs-Do, outs-Await, outs-Try, outs-Finally}
+use Rattle.dv_script.specs.declared.body.Statement.TheVariants.{outs-Raise, outs-Caught, outs-End}
 use Rattle.dv_script.specs.declared.action.Action.TheFolds.{fold_out-Action, fold_out-Statement, fold_out-Body}
 
 -- ---- actions, by their forms
@@ -283,7 +289,8 @@ module _ (table : List Class) (r : Readers) (sound : AreSound table r) where
       (λ ds ds_is ds_then. rw (array_is d ds ds_is) (does ds xs (sound_actions ds xs ds_then)))
 
   pub sound_body_by : (d : Data) (b : Body) → body_by table (action_with table r) d ≡ Some b → IsBody table d b
-  unfolding body_by fields_at
+  unfolding body_by keyed_body_by fields_at
+  sound_body_by (string name) b e = rw (← some_injective e) (body_by_name name)
   sound_body_by (object ms) b e =
       bind (fields_at body_keys (object ms)) _ b e (λ t t_is t_then.
       bind (field [] (list_at (action_with table r)) (get_member (codes "do") ms)) _ b t_then (λ a a_is a_then.
@@ -313,6 +320,13 @@ module _ (table : List Class) (r : Readers) (sound : AreSound table r) where
       rw (ds_is, first.1, second.1, ← made)
       (tries first.0 f second.0 a c b first.2
       (sound_list (IsClass table) (class_at table) (class_is table) f c c_is) second.2))) &
+      (λ ds x e. two_read (list_at r.statement) (list_at r.statement) Finally ds x e
+      (λ d f a b ds_is a_is b_is made.
+      let first = statements_in d a a_is in
+      let second = statements_in f b b_is in
+      rw (ds_is, first.1, second.1, ← made) (finishes first.0 second.0 a b first.2 second.2))) &
+      (λ ds x e. bind (none ds) _ x e (λ t t_is t_then. rw (none_is ds t t_is, ← some_injective t_then) raises_again)) &
+      (λ ds x e. bind (none ds) _ x e (λ t t_is t_then. rw (none_is ds t t_is, ← some_injective t_then) takes_caught)) &
       (λ ds x e. one_read (leave_at table) Leave ds x e (λ d l ds_is l_is made.
       let left = sound_leave table d l l_is in
       rw (ds_is, ← made) (leaves d l left.0 left.1))) &
@@ -326,9 +340,13 @@ module _ (table : List Class) (r : Readers) (sound : AreSound table r) where
       bind (statement_word c.0) _ x c_then (λ w w_is w_then.
       rw (call_is d c c_is) (found_word IsStatementRead statement_words sound_statement_words c.0 w w_is c.1 x w_then)))
 
+sound_by_name : (table : List Class) (d : Data) (b : Body) → by_name_or (as_str d) None ≡ Some b → IsBody table d b
+sound_by_name table (string name) b e = rw (← some_injective e) (body_by_name name)
+sound_by_name table _ b e = cc
+
 pub sound_readers : (table : List Class) (n : ℕ) → AreSound table (readers table n)
 unfolding readers
-sound_readers table zero = record { body = λ d b e. cc; statement = λ d s e. cc }
+sound_readers table zero = record { body = sound_by_name table; statement = λ d s e. cc }
 sound_readers table (suc n) = record {
   body = sound_body_by table (readers table n) (sound_readers table n);
   statement = sound_statement_by table (readers table n) (sound_readers table n);
@@ -349,7 +367,7 @@ depth-get_member key (member k c ms) d e = elim (picked (slice_cmp nat_cmp key k
 
 mutual
   unfolding action_by action_of new_deferred_of thread_in_of loop_of call_at none first if_any one one_or_two two three
-      four five sole pair triple readers body_by fields_at statement_by statement_of leave_at
+      four five sole pair triple readers body_by keyed_body_by fields_at statement_by statement_of leave_at
 
   pub complete_action : (table : List Class) {d : Data} {a : Action} (n : ℕ) → IsAction table d a → depth d ≤ n
       → action_at table n d ≡ Some a
@@ -420,6 +438,8 @@ mutual
 
   pub complete_body : (table : List Class) {d : Data} {b : Body} (n : ℕ) → IsBody table d b → depth d ≤ n
       → body_at table n d ≡ Some b
+  complete_body table zero (body_by_name name) h = refl
+  complete_body table (suc n) (body_by_name name) h = refl
   complete_body table zero (body ms xs e only g l) h = absurd (omega (arith, h))
   complete_body table (suc n) (body ms xs e only g l) h =
       rw only (rw (
@@ -439,6 +459,9 @@ mutual
   complete_statement table zero (performs d a g) h = absurd (omega (arith, h))
   complete_statement table zero (awaits name) h = absurd (omega (arith, h))
   complete_statement table zero (tries ds c hs xs classes ys g k l) h = absurd (omega (arith, h))
+  complete_statement table zero (finishes ds hs xs ys g l) h = absurd (omega (arith, h))
+  complete_statement table zero raises_again h = absurd (omega (arith, h))
+  complete_statement table zero takes_caught h = absurd (omega (arith, h))
   complete_statement table zero (leaves d end g may) h = absurd (omega (arith, h))
   complete_statement table (suc n) (performs d a g) h = rw (complete_action table n g (omega (arith, h))) refl
   complete_statement table (suc n) (awaits name) h = refl
@@ -448,6 +471,10 @@ mutual
         complete_classes table c classes k,
         complete_statements table n l (omega (arith, h)),
       ) refl
+  complete_statement table (suc n) (finishes ds hs xs ys g l) h =
+      rw (complete_statements table n g (omega (arith, h)), complete_statements table n l (omega (arith, h))) refl
+  complete_statement table (suc n) raises_again h = refl
+  complete_statement table (suc n) takes_caught h = refl
   complete_statement table (suc n) (leaves d end g may) h = rw (complete_end table d end g, may) refl
 
   pub complete_statements : (table : List Class) {ds : Items} {xs : List Statement} (n : ℕ) → AreStatements table ds xs
@@ -559,6 +586,7 @@ mutual
 
   pub short_body : {table : List Class} {d : Data} {b : Body} → IsBody table d b → times_body b ≡ true
   short_body (body ms xs e only g l) = by_body (record { actions = xs; end = e }) (short_do g)
+  short_body (body_by_name name) = by_body (running name) refl
 
   short_bodies : {table : List Class} {ds : Items} {xs : List Body} → AreBodies table ds xs
       → list_all (λ b. b) (map times_body xs) ≡ true
@@ -570,6 +598,10 @@ mutual
   short_statement (awaits name) = by_statement (Await name) (rw (outs-Await name) refl)
   short_statement (tries ds c hs xs classes ys g k l) =
       by_statement (Try xs classes ys) (rw (outs-Try xs classes ys) (rw (short_statements g, short_statements l) refl))
+  short_statement (finishes ds hs xs ys g l) =
+      by_statement (Finally xs ys) (rw (outs-Finally xs ys) (rw (short_statements g, short_statements l) refl))
+  short_statement raises_again = by_statement RaiseAgain (rw outs-Raise refl)
+  short_statement takes_caught = by_statement Caught (rw outs-Caught refl)
   short_statement (leaves d end g may) = by_statement (Leave end) (rw (outs-End end) refl)
 
   short_statements : {table : List Class} {ds : Items} {xs : List Statement} → AreStatements table ds xs

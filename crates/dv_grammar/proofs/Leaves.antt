@@ -29,7 +29,8 @@ use Rattle.dv_forms.specs.Leaving.{may_leave}
 use Rattle.dv_forms.specs.declared.words.EndWord.{EndWord}
 use Rattle.dv_forms.specs.declared.words.WorkWord.{WorkWord}
 use Rattle.dv_forms.specs.Words.{end_word, end_words, work_word, work_words}
-use Rattle.dv_grammar.specs.Grammar.{IsEnd, returns, passes, adds, raises, traps, waits, runs, throws, IsWork, gives, fails, sums}
+use Rattle.dv_grammar.specs.Grammar.{IsEnd, returns, passes, adds, raises, traps, waits, runs, throws, IsWork, gives}
+use Rattle.dv_grammar.specs.Grammar.{fails, sums}
 use Rattle.dv_grammar.specs.Grammar.{IsListFlag, fires_on_callback, fires_on_errback, consumes_errors, IsGatherFlag}
 use Rattle.dv_grammar.specs.Grammar.{gathers_errors, IsBound, no_bound, a_bound}
 use Rattle.dv_forms.specs.Parts.{empty_at, bare_at, plain_at, head_at, first_error_by, failure_at}

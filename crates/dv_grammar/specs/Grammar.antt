@@ -1,6 +1,7 @@
 -- The grammar of scripts: which JSON stands for what, a rule a line (Twisted: the methods of `Deferred`, and of the
 -- objects round it).
-use Rattle.std.specs.Prelude.{◌≡◌, ℕ, nat_eq, nat_lt, if◌then◌else◌, ℤ, Bool, true, List, [], ◌∷◌, Option, Some, None, codes}
+use Rattle.std.specs.Prelude.{◌≡◌, ℕ, nat_eq, nat_lt, if◌then◌else◌, ℤ, Bool, true, List, [], ◌∷◌, Option, Some, None}
+use Rattle.std.specs.Prelude.{codes}
 use Rattle.std.specs.Prelude.{◌&&◌, min, max}
 use Rattle.serde_json.specs.Data.{Data, null, boolean, string, array, object, Items, no_items, item, Members}
 use Rattle.serde_json.specs.Find.{get_member}
@@ -9,7 +10,8 @@ use Rattle.dv_value.specs.declared.classes.Class.{Class}
 use Rattle.dv_script.specs.declared.body.End.{End}
 use Rattle.dv_script.specs.declared.body.End.TheVariants.{Return, Pass, Plus, Raise, Trap, Wait, Run, Throw}
 use Rattle.dv_script.specs.declared.body.Body.{Body}
-use Rattle.dv_script.specs.declared.body.Statement.{Statement, Do, Await, Try, End as Leave}
+use Rattle.dv_script.specs.declared.body.Statement.{Statement, Do, Await, Try, Finally}
+use Rattle.dv_script.specs.declared.body.Statement.{Raise as RaiseAgain, Caught, End as Leave}
 use Rattle.dv_script.specs.declared.work.Work.{Work}
 use Rattle.dv_script.specs.declared.action.ListFlag.{ListFlag}
 use Rattle.dv_script.specs.declared.action.GatherFlag.{GatherFlag}
@@ -109,6 +111,10 @@ pub data IsBound : Data → Option ℕ → Type 0 where
   no_bound : IsBound null None
   -- 0 to 65,536
   a_bound : (d : Data) (n : ℕ) → IsNumber 0 MOST_PLACES d n → IsBound d (Some n)
+
+-- a body that has another run in its place
+abbrev pub running : List ℕ → Body
+running name = record { actions = []; end = Run name }
 
 mutual
   -- ACTION: what a script does
@@ -242,11 +248,14 @@ mutual
     does : (ds : Items) (actions : List Action) → AreActions table ds actions → IsDo table (Some (array ds)) actions
 
   -- BODY: an object of the keys `do` and `end`, without which it performs nothing and passes its input on; as each
-  -- object of the language it may have a comment, a text that says nothing
+  -- object of the language it may have a comment, a text that says nothing. From version 3 on it may be a text, the
+  -- name of a body, which runs then
   pub data IsBody (table : List Class) : Data → Body → Type 0 where
     body : (ms : Members) (actions : List Action) (end : End) → is_keyed_by body_keys ms ≡ true
         → IsDo table (get_member (codes "do") ms) actions → Field Pass (IsEnd table) (get_member (codes "end") ms) end
         → IsBody table (object ms) (record { actions = actions; end = end })
+    -- NAME
+    body_by_name : (name : List ℕ) → IsBody table (string name) (running name)
 
   -- the items of an array of bodies
   pub data AreBodies (table : List Class) : Items → List Body → Type 0 where
@@ -264,6 +273,14 @@ mutual
     tries : (ds : Items) (c : Data) (hs : Items) (first : List Statement) (classes : List ℕ) (second : List Statement)
         → AreStatements table ds first → IsList (IsClass table) c classes → AreStatements table hs second
         → IsStatement table (call (codes "try") (array ds ∷ c ∷ array hs ∷ [])) (Try first classes second)
+    -- ["finally",[STATEMENT..],[STATEMENT..]]
+    finishes : (ds : Items) (hs : Items) (first : List Statement) (second : List Statement)
+        → AreStatements table ds first → AreStatements table hs second
+        → IsStatement table (call (codes "finally") (array ds ∷ array hs ∷ [])) (Finally first second)
+    -- ["raise"]
+    raises_again : IsStatement table (call (codes "raise") []) RaiseAgain
+    -- ["caught"]
+    takes_caught : IsStatement table (call (codes "caught") []) Caught
     -- ["end",END]
     leaves : (d : Data) (end : End) → IsEnd table d end → may_leave end ≡ true
         → IsStatement table (call (codes "end") (d ∷ [])) (Leave end)
@@ -394,6 +411,9 @@ abbrev pub statement_step : Statement-F Bool Bool Bool → Bool
 statement_step (Statement-F.Do action) = action
 statement_step (Statement-F.Await name) = true
 statement_step (Statement-F.Try first classes second) = list_all (λ b. b) first && list_all (λ b. b) second
+statement_step (Statement-F.Finally first second) = list_all (λ b. b) first && list_all (λ b. b) second
+statement_step Statement-F.Raise = true
+statement_step Statement-F.Caught = true
 statement_step (Statement-F.End end) = true
 
 -- of a body

@@ -1,13 +1,14 @@
 -- What a JSON value reads as by its shape, step by step: the reader that the code follows.
 use Rattle.std.specs.Prelude.{ℕ, zero, suc, List, [], Option, Some, None, if◌then◌else◌, codes}
 use Rattle.serde_json.specs.Data.{Data, Items}
-use Rattle.serde_json.specs.Find.{as_array, as_bool, get}
+use Rattle.serde_json.specs.Find.{as_array, as_bool, as_str, get}
 use Rattle.serde_json.specs.Read.{max_depth}
 use Rattle.dv_value.specs.declared.classes.Class.{Class}
 use Rattle.dv_script.specs.declared.body.End.{End}
 use Rattle.dv_script.specs.declared.body.End.TheVariants.{Return, Pass, Plus, Raise, Trap, Wait, Run, Throw}
 use Rattle.dv_script.specs.declared.body.Body.{Body}
-use Rattle.dv_script.specs.declared.body.Statement.{Statement, Do, Await, Try, End as Leave}
+use Rattle.dv_script.specs.declared.body.Statement.{Statement, Do, Await, Try, Finally}
+use Rattle.dv_script.specs.declared.body.Statement.{Raise as RaiseAgain, Caught, End as Leave}
 use Rattle.dv_script.specs.declared.work.Work.{Work}
 use Rattle.dv_script.specs.declared.work.Work.TheVariants as job
 use Rattle.dv_script.specs.declared.action.Action.{Action, Deferred, Callback, Errback, AddCallback, AddErrback}
@@ -45,7 +46,7 @@ use Rattle.dv_forms.specs.Limits.{most_limit}
 use Rattle.dv_forms.specs.Parts.{◌>>=◌, bound_at, call_at, class_at, declaration_at, field, fields_at, five, four}
 use Rattle.dv_forms.specs.Parts.{gather_flag_at, if_there, integer_at, list_at, list_flag_at, none, number_at, one_of}
 use Rattle.dv_forms.specs.Parts.{one_or_two, table_for, text_at, three_of, two_of, value_at}
-use Rattle.dv_grammar.specs.Grammar.{body_keys, cooperator_keys, keys_of, plain_cooperator}
+use Rattle.dv_grammar.specs.Grammar.{body_keys, cooperator_keys, keys_of, plain_cooperator, running}
 
 -- an end, by its word
 unfoldable pub end_of : List Class → EndWord → Items → Option End
@@ -172,13 +173,22 @@ action_by table body statement d = do
   word ← action_word c.0
   action_of table body statement word c.1
 
--- a body, whose actions are read so
-unfoldable pub body_by : List Class → (Data → Option Action) → Data → Option Body
-body_by table action d = do
+-- an object that is a body, whose actions are read so
+unfoldable pub keyed_body_by : List Class → (Data → Option Action) → Data → Option Body
+keyed_body_by table action d = do
   _ ← fields_at body_keys d
   performed ← field [] (list_at action) (get (codes "do") d)
   last ← field Pass (end_at table) (get (codes "end") d)
   Some (record { actions = performed; end = last })
+
+-- the body that a name has run, where there is one, or else this
+abbrev pub by_name_or : Option (List ℕ) → Option Body → Option Body
+by_name_or None keyed = keyed
+by_name_or (Some name) keyed = Some (running name)
+
+-- a body, whose actions are read so
+unfoldable pub body_by : List Class → (Data → Option Action) → Data → Option Body
+body_by table action d = by_name_or (as_str d) (keyed_body_by table action d)
 
 -- a statement by its word, whose actions and statements are read so
 unfoldable pub statement_of : List Class → (Data → Option Action) → (Data → Option Statement) → StatementWord → Items
@@ -187,6 +197,13 @@ statement_of table action inner statement.Do ds = one_of action Do ds
 statement_of table action inner statement.Await ds = one_of text_at Await ds
 statement_of table action inner statement.Try ds =
     three_of (list_at inner) (list_at (class_at table)) (list_at inner) Try ds
+statement_of table action inner statement.Finally ds = two_of (list_at inner) (list_at inner) Finally ds
+statement_of table action inner statement.Raise ds = do
+  _ ← none ds
+  Some RaiseAgain
+statement_of table action inner statement.Caught ds = do
+  _ ← none ds
+  Some Caught
 statement_of table action inner statement.End ds = one_of (leave_at table) Leave ds
 
 -- a statement, whose actions and statements are read so
@@ -205,9 +222,9 @@ pub record Readers : Type 0 where
 abbrev pub action_with : List Class → Readers → Data → Option Action
 action_with table r = action_by table r.body r.statement
 
--- the readers of bodies and statements that nest to so many levels
+-- the readers of bodies and statements that nest to so many levels: a name has none
 unfoldable pub readers : List Class → ℕ → Readers
-readers table zero = record { body = λ d. None; statement = λ d. None }
+readers table zero = record { body = λ d. by_name_or (as_str d) None; statement = λ d. None }
 readers table (suc levels) = record {
   body = body_by table (action_with table (readers table levels));
   statement = statement_by table (action_with table (readers table levels)) (readers table levels).statement;

@@ -1,14 +1,18 @@
 -- Moves and answers lead where the recursion over the statements leads.
 use Rattle.std.proofs.Common.{◌≡◌, ℕ, List, [], ◌∷◌, map, Option, None, Some, refl, ap, ◌∙◌, sym, subst}
-use Rattle.dv_inline.specs.Leads.{caught_there, through, reached_unless, reached, LeadsBy, LeadAlike, IsDue, Stands}
+use Rattle.dv_inline.specs.Leads.{inside_meant, through, reached_unless, reached, LeadsBy, LeadAlike, IsDue, Stands}
 use Rattle.dv_inline.specs.Leads.{ComesTo}
-use Rattle.dv_inline.specs.Meaning.{Wants, Over, past, thrown, left, wants, followed, caught, caught_by, do_meant}
-use Rattle.dv_inline.specs.Meaning.{await_meant, done_by, in_order, statement_meant, meant, all_meant, ended, result_of}
-use Rattle.dv_inline.specs.Meaning.{Meant}
+use Rattle.dv_inline.specs.Meaning.{Reached, Wants, Over, past, thrown, left, wants, followed, caught, caught_by}
+use Rattle.dv_inline.specs.Meaning.{finished}
+use Rattle.dv_inline.specs.Meaning.{do_meant, await_meant, raise_meant, caught_meant, raised, no_active, done_by}
+use Rattle.dv_inline.specs.Meaning.{in_order, statement_meant, meant, all_meant, ended, result_of, Meant}
 use Rattle.dv_inline.specs.Position.{Position, moved, moved_by, moved_in, moved_unless, outward, come, want_by, want_in}
 use Rattle.dv_inline.specs.Position.{want_unless, answered, answered_to, went_on, thrown_from, thrown_to, second_for}
-use Rattle.dv_inline.specs.Position.{class_caught}
+use Rattle.dv_inline.specs.Position.{class_caught, active, ahead, left_to, left_from, caught_from, out_of}
 use Rattle.dv_inline.specs.declared.open.Catch.{Catch}
+use Rattle.dv_inline.specs.declared.open.Inside.{Inside}
+use Rattle.dv_inline.specs.declared.open.Inside.TheVariants as inside
+use Rattle.dv_inline.specs.declared.open.Onward.TheVariants as onward
 use Rattle.dv_inline.specs.declared.open.Open.{Open}
 use Rattle.dv_inline.specs.declared.want.Want.{Want}
 use Rattle.dv_inline.specs.declared.want.Want.TheVariants.{Do, Await}
@@ -18,10 +22,11 @@ use Rattle.dv_script.specs.declared.action.Action.TheOpen.{Statement-F}
 use Rattle.dv_script.specs.declared.action.Action.TheFolds.{para-Action, para-Body, para-roll-Statement}
 use Rattle.dv_script.specs.declared.body.Body.{Body}
 use Rattle.dv_script.specs.declared.body.Statement.{Statement, out-Statement, map-Statement, roll-out-Statement}
-use Rattle.dv_value.specs.Failure.{failure_in}
+use Rattle.dv_value.specs.Classes.{check}
+use Rattle.dv_value.specs.Failure.{class_of, failure_in}
 use Rattle.dv_value.specs.declared.classes.Class.{Class}
 use Rattle.dv_value.specs.declared.failure.Failure.{Failure}
-use Rattle.dv_value.specs.declared.value.Value.{Value}
+use Rattle.dv_value.specs.declared.value.Value.{Value, Null}
 
 module _ (table : List Class) where
   -- one layer of a statement, by what those inside it mean
@@ -29,8 +34,12 @@ module _ (table : List Class) where
   read (Statement-F.Do action) = do_meant action
   read (Statement-F.Await name) = await_meant name
   read (Statement-F.Try first listed second) =
-      λ v answers. caught table listed (all_meant table second) (all_meant table first v answers)
-  read (Statement-F.End e) = λ v answers. left (ended e v)
+      λ active v answers. caught table listed (all_meant table second) (all_meant table first active v answers)
+  read (Statement-F.Finally first second) =
+      λ active v answers. finished (all_meant table second) active (all_meant table first active v answers)
+  read Statement-F.Raise = raise_meant
+  read Statement-F.Caught = caught_meant
+  read (Statement-F.End e) = λ active v answers. left (ended e v) answers
 
   beside : (ss : List Statement)
       → map (λ (s : Statement × Meant). s.1) (map (λ s. (s, meant table s)) ss) ≡ map (meant table) ss
@@ -47,7 +56,11 @@ module _ (table : List Class) where
       (λ y. (y, para-Body (Unit {0}) Meant (Unit {0}) (λ action. tt) (statement_meant table) (λ body. tt) y)) e)
 
   abbrev try_meant : List ℕ → List Meant → List Meant → Meant
-  try_meant listed first second v answers = caught table listed (in_order second) (in_order first v answers)
+  try_meant listed first second active v answers =
+      caught table listed (in_order second) (in_order first active v answers)
+
+  abbrev finally_meant : List Meant → List Meant → Meant
+  finally_meant first second active v answers = finished (in_order second) active (in_order first active v answers)
 
   layer_read : (e : Statement-F Action Statement Body) → layer e ≡ read e
   layer_read (Statement-F.Do action) = refl
@@ -56,6 +69,12 @@ module _ (table : List Class) where
       ap (λ (ms : List Meant).
       try_meant listed ms (map (λ (s : Statement × Meant). s.1) (map (λ s. (s, meant table s)) second))) (beside first)
       ∙ ap (try_meant listed (map (meant table) first)) (beside second)
+  layer_read (Statement-F.Finally first second) =
+      ap (λ (ms : List Meant).
+      finally_meant ms (map (λ (s : Statement × Meant). s.1) (map (λ s. (s, meant table s)) second))) (beside first)
+      ∙ ap (finally_meant (map (meant table) first)) (beside second)
+  layer_read Statement-F.Raise = refl
+  layer_read Statement-F.Caught = refl
   layer_read (Statement-F.End e) = refl
 
   meant_read : (s : Statement) → meant table s ≡ read (out-Statement s)
@@ -63,169 +82,216 @@ module _ (table : List Class) where
       ap (meant table) (sym (roll-out-Statement s)) ∙ para-roll-Statement (Unit {0}) Meant (Unit {0}) (λ action. tt)
       (statement_meant table) (λ body. tt) (out-Statement s) ∙ layer_read (out-Statement s)
 
-  -- what leaves the body goes through every `try`, and so does what it wants
-  caught_left : (c : Option Catch) (v : Value) → caught_there table c (left v) ≡ left v
-  caught_left None v = refl
-  caught_left (Some catch) v = refl
+  -- what is wanted goes through every `try` and `finally`
+  inside_wants : (place : Inside) (outer : Option Failure) (w : Want)
+      → inside_meant table place outer (wants w) ≡ wants w
+  inside_wants (inside.Try catch) outer w = refl
+  inside_wants (inside.Caught failure) outer w = refl
+  inside_wants (inside.Finally second) outer w = refl
+  inside_wants (inside.Ending how) outer w = refl
 
-  through_left : (tries : List Open) (v : Value) → through table tries (left v) ≡ left v
-  through_left [] v = refl
-  through_left (around ∷ tries) v =
-      ap (λ flow. through table tries (followed flow (all_meant table around.rest))) (caught_left around.catch v)
-      ∙ through_left tries v
-
-  caught_wants : (c : Option Catch) (w : Want) → caught_there table c (wants w) ≡ wants w
-  caught_wants None w = refl
-  caught_wants (Some catch) w = refl
-
-  through_wants : (tries : List Open) (w : Want) → through table tries (wants w) ≡ wants w
+  through_wants : (opens : List Open) (w : Want) → through table opens (wants w) ≡ wants w
   through_wants [] w = refl
-  through_wants (around ∷ tries) w =
-      ap (λ flow. through table tries (followed flow (all_meant table around.rest))) (caught_wants around.catch w)
-      ∙ through_wants tries w
+  through_wants (around ∷ opens) w =
+      ap (λ flow. through table opens (followed flow (all_meant table around.rest (active opens))))
+      (inside_wants around.inside (active opens) w) ∙ through_wants opens w
 
-  caught_past : (c : Option Catch) (v : Value) (answers : List Value)
-      → caught_there table c (past v answers) ≡ past v answers
-  caught_past None v answers = refl
-  caught_past (Some catch) v answers = refl
+-- from a statement, which means this, by what follows it
+abbrev on_from : Position → List Statement → List Value → Meant → Reached
+on_from p rest answers m =
+    result_of (through p.classes p.opens
+    (followed (m (active p.opens) p.value answers) (all_meant p.classes rest (active p.opens))))
 
-  -- a move leads on alike
-  abbrev Alike : Position → Option Position → Type 0
-  Alike p None = Unit {0}
-  Alike p (Some q) = (answers : List Value) → reached table q answers ≡ reached table p answers
+-- a failure leads to where it is caught, or to the second statements of a `finally`
+thrown_on : (o : Option ℕ) (catch : Catch) (failure : Failure) (outer : Position) (rest : List Statement)
+    (opens : List Open) (p : Position) (more : List Value) → p.result ≡ None
+    → reached outer more ≡ result_of (through p.classes opens (thrown failure more))
+    → reached (thrown_to outer failure (second_for o (inside.Try catch)) None rest opens p) more
+    ≡ result_of (through p.classes opens
+    (followed (caught_by o (all_meant p.classes catch.second) failure more) (all_meant p.classes rest (active opens))))
+thrown_on None catch failure outer rest opens p more n h = h
+thrown_on (Some class) catch failure outer rest opens p more n h = rw n refl
 
-  alike_layer : (e : Statement-F Action Statement Body) (s : Statement) (rest : List Statement) (p : Position)
-      → meant table s ≡ read e → p.statements ≡ s ∷ rest → p.result ≡ None → Alike p (moved_by e rest p)
-  alike_layer (Statement-F.Do action) s rest p h g n = tt
-  alike_layer (Statement-F.Await name) s rest p h g n = tt
-  alike_layer (Statement-F.Try first listed second) s rest p h g n =
-      λ answers. rw n (rw g (sym
-      (ap (λ (m : Meant). result_of (through table p.tries (followed (m p.value answers) (all_meant table rest)))) h)))
-  alike_layer (Statement-F.End e) s rest p h g n =
-      λ answers. rw n (rw g
-      (sym (ap (λ (m : Meant). result_of (through table p.tries (followed (m p.value answers) (all_meant table rest))))
-      h ∙ ap result_of (through_left p.tries (ended e p.value)))))
+thrown_at : (place : Inside) (failure : Failure) (outer : Position) (rest : List Statement) (opens : List Open)
+    (p : Position) (more : List Value) → p.result ≡ None
+    → reached outer more ≡ result_of (through p.classes opens (thrown failure more))
+    → reached
+    (thrown_to outer failure (second_for (class_caught p.classes failure place) place) (ahead place) rest opens
+    p) more
+    ≡ result_of (through p.classes opens
+    (followed (inside_meant p.classes place (active opens) (thrown failure more))
+    (all_meant p.classes rest (active opens))))
+thrown_at (inside.Try catch) failure outer rest opens p more n h =
+    thrown_on (check p.classes (class_of failure) catch.classes) catch failure outer rest opens p more n h
+thrown_at (inside.Caught other) failure outer rest opens p more n h = h
+thrown_at (inside.Finally second) failure outer rest opens p more n h = rw n refl
+thrown_at (inside.Ending how) failure outer rest opens p more n h = h
 
-  alike_tries : (tries : List Open) (p : Position) → p.tries ≡ tries → p.statements ≡ [] → p.result ≡ None
-      → Alike p (Some (outward tries p))
-  alike_tries [] p t g n = λ answers. rw n (rw g (rw t refl))
-  alike_tries (around ∷ tries) p t g n =
-      λ answers.
-      rw n (rw g (rw t (sym (ap (λ flow. result_of (through table tries (followed flow (all_meant table around.rest))))
-      (caught_past around.catch p.value answers)))))
+thrown_leads : (failure : Failure) (opens : List Open) (p : Position) (more : List Value) → p.result ≡ None
+    → reached (thrown_from failure opens p) more ≡ result_of (through p.classes opens (thrown failure more))
+thrown_leads failure [] p more n = refl
+thrown_leads failure (around ∷ opens) p more n =
+    thrown_at around.inside failure (thrown_from failure opens p) around.rest opens p more n
+    (thrown_leads failure opens p more n)
 
-  alike_statements : (ss : List Statement) (p : Position) → p.statements ≡ ss → p.result ≡ None
-      → Alike p (moved_in ss p)
-  alike_statements [] p g n = alike_tries p.tries p refl g n
-  alike_statements (s ∷ rest) p g n = alike_layer (out-Statement s) s rest p (meant_read s) g n
+-- and so does an end
+left_at : (place : Inside) (v : Value) (outer : Position) (rest : List Statement) (opens : List Open) (p : Position)
+    (more : List Value) → p.result ≡ None
+    → reached outer more ≡ result_of (through p.classes opens (left v more))
+    → reached (left_to outer v (ahead place) rest opens p) more
+    ≡ result_of (through p.classes opens
+    (followed (inside_meant p.classes place (active opens) (left v more)) (all_meant p.classes rest (active opens))))
+left_at (inside.Try catch) v outer rest opens p more n h = h
+left_at (inside.Caught failure) v outer rest opens p more n h = h
+left_at (inside.Finally second) v outer rest opens p more n h = rw n refl
+left_at (inside.Ending how) v outer rest opens p more n h = h
 
-  alike_result : (o : Option Value) (p : Position) → p.result ≡ o → Alike p (moved_unless o p)
-  alike_result None p n = alike_statements p.statements p refl n
-  alike_result (Some outcome) p n = tt
+left_leads : (v : Value) (opens : List Open) (p : Position) (more : List Value) → p.result ≡ None
+    → reached (left_from v opens p) more ≡ result_of (through p.classes opens (left v more))
+left_leads v [] p more n = refl
+left_leads v (around ∷ opens) p more n =
+    left_at around.inside v (left_from v opens p) around.rest opens p more n (left_leads v opens p more n)
 
-  alike : (p q : Position) → moved p ≡ Some q → (answers : List Value)
-      → reached table q answers ≡ reached table p answers
-  alike p q h = subst (Alike p) h (alike_result p.result p refl)
+-- what is caught becomes the present value
+caught_leads : (o : Option Failure) (rest : List Statement) (p : Position) (answers : List Value) → p.result ≡ None
+    → reached (caught_from o rest p) answers
+    ≡ result_of (through p.classes p.opens
+    (followed (caught_meant o p.value answers) (all_meant p.classes rest (active p.opens))))
+caught_leads None rest p answers n = thrown_leads no_active p.opens p answers n
+caught_leads (Some failure) rest p answers n = rw n refl
 
-  come_alike : (p : Position) (answers : List Value) → reached table (come p) answers ≡ reached table p answers
-  come_alike p answers =
-      come_kept (λ u. reached table u answers ≡ reached table p answers) p (λ u v h k. alike u v h answers ∙ k) refl
+-- past the last statement it goes on out of the innermost
+out_leads : (place : Inside) (rest : List Statement) (opens : List Open) (p : Position) (answers : List Value)
+    → p.result ≡ None
+    → reached (out_of place rest (record p { opens = opens })) answers
+    ≡ result_of (through p.classes opens
+    (followed (inside_meant p.classes place (active opens) (past p.value answers))
+    (all_meant p.classes rest (active opens))))
+out_leads (inside.Try catch) rest opens p answers n = rw n refl
+out_leads (inside.Caught failure) rest opens p answers n = rw n refl
+out_leads (inside.Finally second) rest opens p answers n = rw n refl
+out_leads (inside.Ending (onward.Past v)) rest opens p answers n = rw n refl
+out_leads (inside.Ending (onward.Thrown failure)) rest opens p answers n =
+    thrown_leads failure opens (record p { opens = opens }) answers n
+out_leads (inside.Ending (onward.Left v)) rest opens p answers n =
+    left_leads v opens (record p { opens = opens }) answers n
 
-  -- a failure leads to where it is caught
-  thrown_on : (o : Option ℕ) (failure : Failure) (outer : Position) (catch : Catch) (rest : List Statement)
-      (tries : List Open) (p : Position) (more : List Value) → p.result ≡ None
-      → reached table outer more ≡ result_of (through table tries (thrown failure more))
-      → reached table (thrown_to outer (second_for o (Some catch)) rest tries p) more ≡ result_of
-      (through table tries (followed (caught_by o (all_meant table catch.second) failure more) (all_meant table rest)))
-  thrown_on None failure outer catch rest tries p more n h = h
-  thrown_on (Some class) failure outer catch rest tries p more n h = rw n refl
+-- a move leads on alike
+abbrev Alike : Position → Option Position → Type 0
+Alike p None = Unit {0}
+Alike p (Some q) = (answers : List Value) → reached q answers ≡ reached p answers
 
-  thrown_by : (c : Option Catch) (failure : Failure) (outer : Position) (rest : List Statement) (tries : List Open)
-      (p : Position) (more : List Value) → p.result ≡ None
-      → reached table outer more ≡ result_of (through table tries (thrown failure more))
-      → reached table (thrown_to outer (second_for (class_caught table failure c) c) rest tries p) more
-      ≡ result_of (through table tries (followed (caught_there table c (thrown failure more)) (all_meant table rest)))
-  thrown_by None failure outer rest tries p more n h = h
-  thrown_by (Some catch) failure outer rest tries p more n h =
-      thrown_on (class_caught table failure (Some catch)) failure outer catch rest tries p more n h
+alike_layer : (e : Statement-F Action Statement Body) (s : Statement) (rest : List Statement) (p : Position)
+    → meant p.classes s ≡ read p.classes e → p.statements ≡ s ∷ rest → p.result ≡ None → Alike p (moved_by e rest p)
+alike_layer (Statement-F.Do action) s rest p h g n = tt
+alike_layer (Statement-F.Await name) s rest p h g n = tt
+alike_layer (Statement-F.Try first listed second) s rest p h g n =
+    λ answers. rw n (rw g (sym (ap (on_from p rest answers) h)))
+alike_layer (Statement-F.Finally first second) s rest p h g n =
+    λ answers. rw n (rw g (sym (ap (on_from p rest answers) h)))
+alike_layer Statement-F.Raise s rest p h g n =
+    λ answers.
+    thrown_leads (raised (active p.opens)) p.opens p answers n ∙ rw n (rw g (sym (ap (on_from p rest answers) h)))
+alike_layer Statement-F.Caught s rest p h g n =
+    λ answers.
+    caught_leads (active p.opens) rest p answers n ∙ rw n (rw g (sym (ap (on_from p rest answers) h)))
+alike_layer (Statement-F.End e) s rest p h g n =
+    λ answers.
+    left_leads (ended e p.value) p.opens (record p { value = Null }) answers n
+    ∙ rw n (rw g (sym (ap (on_from p rest answers) h)))
 
-  thrown_leads : (failure : Failure) (tries : List Open) (p : Position) (more : List Value) → p.result ≡ None
-      → reached table (thrown_from table failure tries p) more ≡ result_of (through table tries (thrown failure more))
-  thrown_leads failure [] p more n = refl
-  thrown_leads failure (around ∷ tries) p more n =
-      thrown_by around.catch failure (thrown_from table failure tries p) around.rest tries p more n
-      (thrown_leads failure tries p more n)
+alike_opens : (opens : List Open) (p : Position) → p.opens ≡ opens → p.statements ≡ [] → p.result ≡ None
+    → Alike p (Some (outward opens p))
+alike_opens [] p t g n = λ answers. rw n (rw g (rw t refl))
+alike_opens (around ∷ opens) p t g n =
+    λ answers. out_leads around.inside around.rest opens p answers n ∙ rw n (rw g (rw t refl))
 
-  -- an answer leads on
-  went_leads : (o : Option Failure) (v : Value) (s : Statement) (rest : List Statement) (p : Position)
-      (more : List Value) → p.statements ≡ s ∷ rest → p.result ≡ None
-      → reached table (went_on table o v p) more
-      ≡ result_of (through table p.tries (followed (done_by o v more) (all_meant table rest)))
-  went_leads None v s rest p more g n = rw n (rw g refl)
-  went_leads (Some failure) v s rest p more g n = thrown_leads failure p.tries p more n
+alike_statements : (ss : List Statement) (p : Position) → p.statements ≡ ss → p.result ≡ None
+    → Alike p (moved_in ss p)
+alike_statements [] p g n = alike_opens p.opens p refl g n
+alike_statements (s ∷ rest) p g n = alike_layer (out-Statement s) s rest p (meant_read p.classes s) g n
 
-  leads_layer : (e : Statement-F Action Statement Body) (s : Statement) (rest : List Statement) (answer : Value)
-      (p : Position) → meant table s ≡ read e → p.statements ≡ s ∷ rest → p.result ≡ None → (want_by e ≡ None → ⊥)
-      → LeadsBy table answer p (answered_to table (want_by e) answer p)
-  leads_layer (Statement-F.Do action) s rest answer p h g n due =
-      λ more. went_leads (failure_in answer) p.value s rest p more g n ∙ rw n (rw g (sym (ap (λ (m : Meant).
-      result_of (through table p.tries (followed (m p.value (answer ∷ more)) (all_meant table rest)))) h)))
-  leads_layer (Statement-F.Await name) s rest answer p h g n due =
-      λ more. went_leads (failure_in answer) answer s rest p more g n ∙ rw n (rw g (sym (ap (λ (m : Meant).
-      result_of (through table p.tries (followed (m p.value (answer ∷ more)) (all_meant table rest)))) h)))
-  leads_layer (Statement-F.Try first listed second) s rest answer p h g n due = absurd (due refl)
-  leads_layer (Statement-F.End e) s rest answer p h g n due = absurd (due refl)
+alike_result : (o : Option Value) (p : Position) → p.result ≡ o → Alike p (moved_unless o p)
+alike_result None p n = alike_statements p.statements p refl n
+alike_result (Some outcome) p n = tt
 
-  leads_statements : (ss : List Statement) (answer : Value) (p : Position) → p.statements ≡ ss → p.result ≡ None
-      → (want_in ss ≡ None → ⊥) → LeadsBy table answer p (answered_to table (want_in ss) answer p)
-  leads_statements [] answer p g n due = absurd (due refl)
-  leads_statements (s ∷ rest) answer p g n due = leads_layer (out-Statement s) s rest answer p (meant_read s) g n due
-
-  leads_result : (o : Option Value) (answer : Value) (p : Position) → p.result ≡ o → (want_unless o p ≡ None → ⊥)
-      → LeadsBy table answer p (answered_to table (want_unless o p) answer p)
-  leads_result None answer p n due = leads_statements p.statements answer p refl n due
-  leads_result (Some outcome) answer p n due = absurd (due refl)
-
-pub answer_leads : (table : List Class) (answer : Value) (p : Position) → IsDue p
-    → LeadsBy table answer p (answered table answer p)
-answer_leads table answer p due = leads_result table p.result answer p refl due
-
-pub taken_leads : (table : List Class) (answer : Value) (p q : Position) → q ≡ answered table answer p → IsDue p
-    → LeadsBy table answer p q
-taken_leads table answer p q h due more = rw h (answer_leads table answer p due more)
+alike : (p q : Position) → moved p ≡ Some q → LeadAlike p q
+alike p q h = subst (Alike p) h (alike_result p.result p refl)
 
 pub come_leads : (p : Position) → LeadAlike p (come p)
-come_leads p table answers = come_alike table p answers
+come_leads p answers =
+    come_kept (λ u. reached u answers ≡ reached p answers) p (λ u v h k. alike u v h answers ∙ k) refl
+
+-- an answer leads on
+went_leads : (o : Option Failure) (v : Value) (s : Statement) (rest : List Statement) (p : Position) (more : List Value)
+    → p.statements ≡ s ∷ rest → p.result ≡ None
+    → reached (went_on o v p) more
+    ≡ result_of (through p.classes p.opens
+    (followed (done_by o v more) (all_meant p.classes rest (active p.opens))))
+went_leads None v s rest p more g n = rw n (rw g refl)
+went_leads (Some failure) v s rest p more g n = thrown_leads failure p.opens p more n
+
+leads_layer : (e : Statement-F Action Statement Body) (s : Statement) (rest : List Statement) (answer : Value)
+    (p : Position) → meant p.classes s ≡ read p.classes e → p.statements ≡ s ∷ rest → p.result ≡ None
+    → (want_by e ≡ None → ⊥) → LeadsBy answer p (answered_to (want_by e) answer p)
+leads_layer (Statement-F.Do action) s rest answer p h g n due =
+    λ more.
+    went_leads (failure_in answer) p.value s rest p more g n
+    ∙ rw n (rw g (sym (ap (on_from p rest (answer ∷ more)) h)))
+leads_layer (Statement-F.Await name) s rest answer p h g n due =
+    λ more.
+    went_leads (failure_in answer) answer s rest p more g n
+    ∙ rw n (rw g (sym (ap (on_from p rest (answer ∷ more)) h)))
+leads_layer (Statement-F.Try first listed second) s rest answer p h g n due = absurd (due refl)
+leads_layer (Statement-F.Finally first second) s rest answer p h g n due = absurd (due refl)
+leads_layer Statement-F.Raise s rest answer p h g n due = absurd (due refl)
+leads_layer Statement-F.Caught s rest answer p h g n due = absurd (due refl)
+leads_layer (Statement-F.End e) s rest answer p h g n due = absurd (due refl)
+
+leads_statements : (ss : List Statement) (answer : Value) (p : Position) → p.statements ≡ ss → p.result ≡ None
+    → (want_in ss ≡ None → ⊥) → LeadsBy answer p (answered_to (want_in ss) answer p)
+leads_statements [] answer p g n due = absurd (due refl)
+leads_statements (s ∷ rest) answer p g n due =
+    leads_layer (out-Statement s) s rest answer p (meant_read p.classes s) g n due
+
+leads_result : (o : Option Value) (answer : Value) (p : Position) → p.result ≡ o → (want_unless o p ≡ None → ⊥)
+    → LeadsBy answer p (answered_to (want_unless o p) answer p)
+leads_result None answer p n due = leads_statements p.statements answer p refl n due
+leads_result (Some outcome) answer p n due = absurd (due refl)
+
+pub answer_leads : (answer : Value) (p : Position) → IsDue p → LeadsBy answer p (answered answer p)
+answer_leads answer p due = leads_result p.result answer p refl due
+
+pub taken_leads : (answer : Value) (p q : Position) → q ≡ answered answer p → IsDue p → LeadsBy answer p q
+taken_leads answer p q h due more = rw h (answer_leads answer p due more)
 
 -- where there is no move, and the body isn't over, a want stands, and there is no answer to it
 wants_layer : (e : Statement-F Action Statement Body) (s : Statement) (rest : List Statement) (p : Position)
-    → ((table : List Class) → meant table s ≡ read table e) → p.statements ≡ s ∷ rest → p.result ≡ None
-    → moved_by e rest p ≡ None
-    → (w : Want) × (want_by e ≡ Some w) × ((table : List Class) → reached table p [] ≡ Wants w)
+    → meant p.classes s ≡ read p.classes e → p.statements ≡ s ∷ rest → p.result ≡ None → moved_by e rest p ≡ None
+    → (w : Want) × (want_by e ≡ Some w) × (reached p [] ≡ Wants w)
 wants_layer (Statement-F.Do action) s rest p h g n m = (
   Do action,
   refl,
-  λ table.
-      rw n (rw g (ap (λ (m : Meant). result_of (through table p.tries (followed (m p.value []) (all_meant table rest))))
-      (h table) ∙ ap result_of (through_wants table p.tries (Do action)))),
+  rw n (rw g (ap (on_from p rest []) h ∙ ap result_of (through_wants p.classes p.opens (Do action)))),
 )
 wants_layer (Statement-F.Await name) s rest p h g n m = (
   Await name,
   refl,
-  λ table.
-      rw n (rw g (ap (λ (m : Meant). result_of (through table p.tries (followed (m p.value []) (all_meant table rest))))
-      (h table) ∙ ap result_of (through_wants table p.tries (Await name)))),
+  rw n (rw g (ap (on_from p rest []) h ∙ ap result_of (through_wants p.classes p.opens (Await name)))),
 )
 wants_layer (Statement-F.Try first listed second) s rest p h g n m = absurd cc
+wants_layer (Statement-F.Finally first second) s rest p h g n m = absurd cc
+wants_layer Statement-F.Raise s rest p h g n m = absurd cc
+wants_layer Statement-F.Caught s rest p h g n m = absurd cc
 wants_layer (Statement-F.End e) s rest p h g n m = absurd cc
 
 wants_statements : (ss : List Statement) (p : Position) → p.statements ≡ ss → p.result ≡ None → moved_in ss p ≡ None
-    → (w : Want) × (want_in ss ≡ Some w) × ((table : List Class) → reached table p [] ≡ Wants w)
+    → (w : Want) × (want_in ss ≡ Some w) × (reached p [] ≡ Wants w)
 wants_statements [] p g n m = absurd cc
-wants_statements (s ∷ rest) p g n m = wants_layer (out-Statement s) s rest p (λ table. meant_read table s) g n m
+wants_statements (s ∷ rest) p g n m = wants_layer (out-Statement s) s rest p (meant_read p.classes s) g n m
 
 wants_result : (o : Option Value) (p : Position) → p.result ≡ o → o ≡ None → moved_unless o p ≡ None
-    → (w : Want) × (want_unless o p ≡ Some w) × ((table : List Class) → reached table p [] ≡ Wants w)
+    → (w : Want) × (want_unless o p ≡ Some w) × (reached p [] ≡ Wants w)
 wants_result None p n e m = wants_statements p.statements p refl n m
 wants_result (Some outcome) p n e m = absurd cc
 
@@ -237,13 +303,12 @@ abbrev value_or : Value → Option Value → Value
 value_or v None = v
 value_or v (Some w) = w
 
-over_result : (o : Option Value) (table : List Class) (p : Position) (v : Value) → o ≡ Some v
-    → reached_unless table o p [] ≡ Over v
-over_result None table p v h = absurd cc
-over_result (Some outcome) table p v h = ap (λ o. Over (value_or v o)) h
+over_result : (o : Option Value) (p : Position) (v : Value) → o ≡ Some v → reached_unless o p [] ≡ Over v
+over_result None p v h = absurd cc
+over_result (Some outcome) p v h = ap (λ o. Over (value_or v o)) h
 
 pub come_ends : (p : Position) (v : Value) → (come p).result ≡ Some v → ComesTo p v
-come_ends p v h table = sym (come_leads p table []) ∙ over_result (come p).result table (come p) v h
+come_ends p v h = sym (come_leads p []) ∙ over_result (come p).result (come p) v h
 
 pub come_wants : (p : Position) → (come p).result ≡ None → Stands (come p)
 come_wants p n = wants_here (come p) (come_rests p) n

@@ -1,2 +1,3 @@
+pub mod OpensLemmas
 pub mod Moves
 pub mod LeadsLemmas

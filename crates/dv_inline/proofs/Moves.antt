@@ -1,16 +1,23 @@
 -- The moves of a body that need no answer: each leaves less of it, so that they end.
-use Rattle.std.proofs.Common.{◌≡◌, ℕ, zero, suc, ◌<◌, ◌≤◌, true, false, List, [], ◌∷◌, Option, None, Some, refl, arith}
+use Rattle.std.proofs.Common.{◌≡◌, ℕ, zero, suc, ◌+◌, ◌<◌, ◌≤◌, true, false, List, [], ◌∷◌, Option, None, Some, refl}
+use Rattle.std.proofs.Common.{arith}
 use Rattle.std.proofs.Common.{ap, ◌∙◌, sym, subst}
+use Rattle.dv_inline.specs.Meaning.{ended, no_active, raised}
 use Rattle.dv_inline.specs.Position.{Position, Moves, moved, moved_by, moved_in, moved_unless, outward, statement_step}
-use Rattle.dv_inline.specs.Position.{statement_size, statements_size, tries_size, result_size, position_size, goes_on}
-use Rattle.dv_inline.specs.Position.{come_within, come}
+use Rattle.dv_inline.specs.Position.{statement_size, statements_size, inside_size, opens_size, result_size}
+use Rattle.dv_inline.specs.Position.{position_size, goes_on, come_within, come, active, ahead, class_caught, second_for}
+use Rattle.dv_inline.specs.Position.{thrown_to, thrown_from, left_to, left_from, caught_from, out_of}
+use Rattle.dv_inline.specs.declared.open.Inside.{Inside}
+use Rattle.dv_inline.specs.declared.open.Inside.TheVariants as inside
+use Rattle.dv_inline.specs.declared.open.Onward.TheVariants as onward
 use Rattle.dv_inline.specs.declared.open.Open.{Open}
 use Rattle.dv_script.specs.declared.action.Action.{Action}
 use Rattle.dv_script.specs.declared.action.Action.TheOpen.{Statement-F}
 use Rattle.dv_script.specs.declared.action.Action.TheFolds.{fold-Action, fold-Body, fold_out-Statement}
 use Rattle.dv_script.specs.declared.body.Body.{Body}
 use Rattle.dv_script.specs.declared.body.Statement.{Statement, out-Statement, map-Statement}
-use Rattle.dv_value.specs.declared.value.Value.{Value}
+use Rattle.dv_value.specs.declared.failure.Failure.{Failure}
+use Rattle.dv_value.specs.declared.value.Value.{Value, Null}
 
 -- where there is a move, it leads to less
 abbrev pub Falls : Position → Option Position → Type 0
@@ -26,20 +33,94 @@ layer_size e =
 size_out : (s : Statement) → statement_size s ≡ layer_size (out-Statement s)
 size_out = fold_out-Statement ℕ ℕ ℕ (λ action. 0) statement_step (λ body. 0)
 
+-- a failure that is thrown leaves less than what is round it, and so does an end
+thrown_at : (o : Option ℕ) (place : Inside) (failure : Failure) (outer : Position) (rest : List Statement)
+    (opens : List Open) (p : Position) → p.result ≡ None
+    → position_size outer < 1 + statements_size p.statements + opens_size opens
+    → position_size (thrown_to outer failure (second_for o place) (ahead place) rest opens p)
+    < 1 + statements_size p.statements + (1 + inside_size place + statements_size rest + opens_size opens)
+thrown_at None (inside.Try catch) failure outer rest opens p n h = omega (arith, h)
+thrown_at (Some class) (inside.Try catch) failure outer rest opens p n h = omega (arith, ap result_size n)
+thrown_at None (inside.Caught other) failure outer rest opens p n h = omega (arith, h)
+thrown_at (Some class) (inside.Caught other) failure outer rest opens p n h = omega (arith, h)
+thrown_at None (inside.Finally second) failure outer rest opens p n h = omega (arith, ap result_size n)
+thrown_at (Some class) (inside.Finally second) failure outer rest opens p n h = omega (arith, ap result_size n)
+thrown_at None (inside.Ending how) failure outer rest opens p n h = omega (arith, h)
+thrown_at (Some class) (inside.Ending how) failure outer rest opens p n h = omega (arith, h)
+
+thrown_less : (failure : Failure) (opens : List Open) (p : Position) → p.result ≡ None
+    → position_size (thrown_from failure opens p) < 1 + statements_size p.statements + opens_size opens
+thrown_less failure [] p n = omega arith
+thrown_less failure (around ∷ opens) p n =
+    thrown_at (class_caught p.classes failure around.inside) around.inside failure (thrown_from failure opens p)
+    around.rest opens p n (thrown_less failure opens p n)
+
+left_at : (place : Inside) (v : Value) (outer : Position) (rest : List Statement) (opens : List Open) (p : Position)
+    → p.result ≡ None → position_size outer < 1 + statements_size p.statements + opens_size opens
+    → position_size (left_to outer v (ahead place) rest opens p)
+    < 1 + statements_size p.statements + (1 + inside_size place + statements_size rest + opens_size opens)
+left_at (inside.Try catch) v outer rest opens p n h = omega (arith, h)
+left_at (inside.Caught failure) v outer rest opens p n h = omega (arith, h)
+left_at (inside.Finally second) v outer rest opens p n h = omega (arith, ap result_size n)
+left_at (inside.Ending how) v outer rest opens p n h = omega (arith, h)
+
+left_less : (v : Value) (opens : List Open) (p : Position) → p.result ≡ None
+    → position_size (left_from v opens p) < 1 + statements_size p.statements + opens_size opens
+left_less v [] p n = omega arith
+left_less v (around ∷ opens) p n =
+    left_at around.inside v (left_from v opens p) around.rest opens p n (left_less v opens p n)
+
+caught_less : (o : Option Failure) (rest : List Statement) (p : Position) → p.result ≡ None
+    → statements_size p.statements ≡ 1 + statements_size rest
+    → position_size (caught_from o rest p) < 1 + statements_size p.statements + opens_size p.opens
+caught_less None rest p n h = thrown_less no_active p.opens p n
+caught_less (Some failure) rest p n h = omega (arith, h, ap result_size n)
+
 by_layer : (e : Statement-F Action Statement Body) (s : Statement) (rest : List Statement) (p : Position)
     → statement_size s ≡ layer_size e → p.statements ≡ s ∷ rest → p.result ≡ None → Falls p (moved_by e rest p)
 by_layer (Statement-F.Do action) s rest p h g n = tt
 by_layer (Statement-F.Await name) s rest p h g n = tt
 by_layer (Statement-F.Try first listed second) s rest p h g n = omega (arith, h, ap statements_size g)
-by_layer (Statement-F.End e) s rest p h g n = omega (arith, h, ap result_size n)
+by_layer (Statement-F.Finally first second) s rest p h g n = omega (arith, h, ap statements_size g)
+by_layer Statement-F.Raise s rest p h g n =
+    omega (arith, ap result_size n, thrown_less (raised (active p.opens)) p.opens p n)
+by_layer Statement-F.Caught s rest p h g n =
+    omega (
+      arith,
+      ap result_size n,
+      caught_less (active p.opens) rest p n (omega (arith, h, ap statements_size g)),
+    )
+by_layer (Statement-F.End e) s rest p h g n =
+    omega (arith, ap result_size n, left_less (ended e p.value) p.opens (record p { value = Null }) n)
 
-by_tries : (tries : List Open) (p : Position) → p.tries ≡ tries → p.statements ≡ [] → p.result ≡ None
-    → Falls p (Some (outward tries p))
-by_tries [] p t g n = omega (arith, ap result_size n)
-by_tries (around ∷ tries) p t g n = omega (arith, ap tries_size t, ap statements_size g)
+-- what leads out of the innermost
+by_inside : (place : Inside) (rest : List Statement) (opens : List Open) (p : Position) → p.statements ≡ []
+    → p.result ≡ None
+    → position_size (out_of place rest (record p { opens = opens }))
+    < 2 + inside_size place + statements_size rest + opens_size opens
+by_inside (inside.Try catch) rest opens p g n = omega (arith, ap result_size n)
+by_inside (inside.Caught failure) rest opens p g n = omega (arith, ap result_size n)
+by_inside (inside.Finally second) rest opens p g n = omega (arith, ap result_size n)
+by_inside (inside.Ending (onward.Past v)) rest opens p g n = omega (arith, ap result_size n)
+by_inside (inside.Ending (onward.Thrown failure)) rest opens p g n =
+    omega (arith, ap statements_size g, thrown_less failure opens (record p { opens = opens }) n)
+by_inside (inside.Ending (onward.Left v)) rest opens p g n =
+    omega (arith, ap statements_size g, left_less v opens (record p { opens = opens }) n)
+
+by_opens : (opens : List Open) (p : Position) → p.opens ≡ opens → p.statements ≡ [] → p.result ≡ None
+    → Falls p (Some (outward opens p))
+by_opens [] p t g n = omega (arith, ap result_size n)
+by_opens (around ∷ opens) p t g n =
+    omega (
+      arith,
+      by_inside around.inside around.rest opens p g n,
+      ap opens_size t,
+      ap statements_size g,
+      ap result_size n,
+    )
 
 by_statements : (ss : List Statement) (p : Position) → p.statements ≡ ss → p.result ≡ None → Falls p (moved_in ss p)
-by_statements [] p g n = by_tries p.tries p refl g n
+by_statements [] p g n = by_opens p.opens p refl g n
 by_statements (s ∷ rest) p g n = by_layer (out-Statement s) s rest p (size_out s) g n
 
 by_result : (o : Option Value) (p : Position) → p.result ≡ o → Falls p (moved_unless o p)

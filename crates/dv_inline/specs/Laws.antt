@@ -10,8 +10,8 @@ use Rattle.dv_value.specs.declared.value.Value.{Value}
 -- a body that begins leads where the recursion over its statements leads
 abbrev pub BodiesBeginThere : Type 0
 BodiesBeginThere =
-    (table : List Class) (statements : List Statement) (answers : List Value)
-    → reached table (started statements) answers ≡ inline table statements answers
+    (classes : List Class) (statements : List Statement) (answers : List Value)
+    → reached (started classes statements) answers ≡ inline classes statements answers
 
 -- the moves that need no answer change nothing of that
 abbrev pub MovesLeadOn : Type 0
@@ -27,5 +27,4 @@ WantsStand = (p : Position) → (come p).result ≡ None → Stands (come p)
 
 -- every list of answers leads from where an answer has led as that answer and they led from before
 abbrev pub AnswersLeadOn : Type 0
-AnswersLeadOn =
-    (table : List Class) (answer : Value) (p : Position) → IsDue p → LeadsBy table answer p (answered table answer p)
+AnswersLeadOn = (answer : Value) (p : Position) → IsDue p → LeadsBy answer p (answered answer p)

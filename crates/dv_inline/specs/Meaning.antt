@@ -1,6 +1,6 @@
 -- The result of an inline body by the answers that it gets, in order: a recursion over its statements (Twisted:
 -- `inlineCallbacks`).
-use Rattle.std.specs.Prelude.{ℕ, List, [], ◌∷◌, map, Option, None, Some}
+use Rattle.std.specs.Prelude.{ℕ, List, [], ◌∷◌, map, Option, None, Some, codes}
 use Rattle.dv_inline.specs.declared.want.Want.{Want}
 use Rattle.dv_inline.specs.declared.want.Want.TheVariants.{Do, Await}
 use Rattle.dv_script.specs.declared.action.Action.{Action}
@@ -10,13 +10,14 @@ use Rattle.dv_script.specs.declared.body.Body.{Body}
 use Rattle.dv_script.specs.declared.body.End.{End}
 use Rattle.dv_script.specs.declared.body.End.TheVariants as end
 use Rattle.dv_script.specs.declared.body.Statement.{Statement}
+use Rattle.dv_value.specs.Builtin.{runtime_error}
 use Rattle.dv_value.specs.Classes.{check}
-use Rattle.dv_value.specs.Failure.{class_of, failure_in, fault}
+use Rattle.dv_value.specs.Failure.{class_of, failure_in, fault, plain_failure}
 use Rattle.dv_value.specs.Plus.{plus_to}
 use Rattle.dv_value.specs.Throw.{failure_at, thrown_or_type_error}
 use Rattle.dv_value.specs.declared.classes.Class.{Class}
 use Rattle.dv_value.specs.declared.failure.Failure.{Failure}
-use Rattle.dv_value.specs.declared.value.Value.{Value, Null, Fault, out-Value}
+use Rattle.dv_value.specs.declared.value.Value.{Value, Null, Fault, List as ListOf, out-Value}
 
 -- where an inline body stands
 pub data Reached : Type 0 where
@@ -31,26 +32,30 @@ pub data Flow : Type 0 where
   past : Value → List Value → Flow
   -- a failure is thrown, and these answers are left
   thrown : Failure → List Value → Flow
-  -- the body is left with this
-  left : Value → Flow
+  -- an end leaves the body with this, and these answers are left
+  left : Value → List Value → Flow
   -- there is no answer to this
   wants : Want → Flow
 
--- what statements result in by the present value and the answers
+-- what comes next, by the present value and the answers
+abbrev pub Next : Type 0
+Next = Value → List Value → Flow
+
+-- what statements result in, by the active failure, the present value and the answers
 abbrev pub Meant : Type 0
-Meant = Value → List Value → Flow
+Meant = Option Failure → Next
 
 -- what comes next goes on past the last statement
-abbrev pub followed : Flow → Meant → Flow
+abbrev pub followed : Flow → Next → Flow
 followed (past v answers) next = next v answers
 followed (thrown failure answers) next = thrown failure answers
-followed (left v) next = left v
+followed (left v answers) next = left v answers
 followed (wants want) next = wants want
 
 -- one after the other
 abbrev pub in_order : List Meant → Meant
-in_order [] v answers = past v answers
-in_order (first ∷ rest) v answers = followed (first v answers) (in_order rest)
+in_order [] active v answers = past v answers
+in_order (first ∷ rest) active v answers = followed (first active v answers) (in_order rest active)
 
 -- the answer to a `do`: a failure is thrown, and anything else leaves the present value as it was
 abbrev pub done_by : Option Failure → Value → List Value → Flow
@@ -58,17 +63,17 @@ done_by None v answers = past v answers
 done_by (Some failure) v answers = thrown failure answers
 
 abbrev pub do_meant : Action → Meant
-do_meant action v [] = wants (Do action)
-do_meant action v (answer ∷ answers) = done_by (failure_in answer) v answers
+do_meant action active v [] = wants (Do action)
+do_meant action active v (answer ∷ answers) = done_by (failure_in answer) v answers
 
 -- the answer to an `await`: a failure is thrown, and anything else becomes the present value
 abbrev pub await_meant : List ℕ → Meant
-await_meant name v [] = wants (Await name)
-await_meant name v (answer ∷ answers) = done_by (failure_in answer) answer answers
+await_meant name active v [] = wants (Await name)
+await_meant name active v (answer ∷ answers) = done_by (failure_in answer) answer answers
 
--- a failure of a class that was found begins the second statements on null; another is thrown on
+-- a failure of a class that was found begins the second statements on null, in which it is active; another is thrown on
 abbrev pub caught_by : Option ℕ → Meant → Failure → List Value → Flow
-caught_by (Some class) second failure answers = second Null answers
+caught_by (Some class) second failure answers = second (Some failure) Null answers
 caught_by None second failure answers = thrown failure answers
 
 -- what the first statements of a `try` throw is caught by one of its classes, with what is inside them; an end isn't
@@ -77,8 +82,35 @@ abbrev pub caught : List Class → List ℕ → Meant → Flow → Flow
 caught table listed second (past v answers) = past v answers
 caught table listed second (thrown failure answers) =
     caught_by (check table (class_of failure) listed) second failure answers
-caught table listed second (left v) = left v
+caught table listed second (left v answers) = left v answers
 caught table listed second (wants want) = wants want
+
+-- after the first statements of a `finally` the second run, on null, however the first ended. A failure that was thrown
+-- is active in them. After the last of them it goes on as the first ended; a failure that is thrown in them, or an end
+-- in them, takes the place of that
+abbrev pub finished : Meant → Option Failure → Flow → Flow
+finished second active (past v answers) = followed (second active Null answers) (λ w more. past v more)
+finished second active (thrown failure answers) =
+    followed (second (Some failure) Null answers) (λ w more. thrown failure more)
+finished second active (left v answers) = followed (second active Null answers) (λ w more. left v more)
+finished second active (wants want) = wants want
+
+-- what is thrown where no failure is active
+abbrev pub no_active : Failure
+no_active = plain_failure runtime_error (codes "no active exception")
+
+-- a `raise` throws the active failure again
+abbrev pub raised : Option Failure → Failure
+raised (Some failure) = failure
+raised None = no_active
+
+abbrev pub raise_meant : Meant
+raise_meant active v answers = thrown (raised active) answers
+
+-- with `caught` the present value becomes a list of the active failure alone
+abbrev pub caught_meant : Meant
+caught_meant (Some failure) v answers = past (ListOf (Fault failure ∷ [])) answers
+caught_meant None v answers = thrown no_active answers
 
 -- what an end returns for the present value
 abbrev pub ended : End → Value → Value
@@ -96,8 +128,14 @@ abbrev pub statement_meant : List Class → Statement-F (Action × Unit {0}) (St
 statement_meant table (Statement-F.Do action) = do_meant action.0
 statement_meant table (Statement-F.Await name) = await_meant name
 statement_meant table (Statement-F.Try first listed second) =
-    λ v answers. caught table listed (in_order (map (λ s. s.1) second)) (in_order (map (λ s. s.1) first) v answers)
-statement_meant table (Statement-F.End e) = λ v answers. left (ended e v)
+    λ active v answers.
+    caught table listed (in_order (map (λ s. s.1) second)) (in_order (map (λ s. s.1) first) active v answers)
+statement_meant table (Statement-F.Finally first second) =
+    λ active v answers.
+    finished (in_order (map (λ s. s.1) second)) active (in_order (map (λ s. s.1) first) active v answers)
+statement_meant table Statement-F.Raise = raise_meant
+statement_meant table Statement-F.Caught = caught_meant
+statement_meant table (Statement-F.End e) = λ active v answers. left (ended e v) answers
 
 -- what a statement results in
 abbrev pub meant : List Class → Statement → Meant
@@ -111,9 +149,10 @@ all_meant table statements = in_order (map (meant table) statements)
 abbrev pub result_of : Flow → Reached
 result_of (past v answers) = Over Null
 result_of (thrown failure answers) = Over (Fault failure)
-result_of (left v) = Over v
+result_of (left v answers) = Over v
 result_of (wants want) = Wants want
 
--- an inline body begins on null: it is over with a result, or it wants what there is no answer to
+-- an inline body begins on null, with no active failure: it is over with a result, or it wants what there is no answer
+-- to
 abbrev pub inline : List Class → List Statement → List Value → Reached
-inline table statements answers = result_of (all_meant table statements Null answers)
+inline table statements answers = result_of (all_meant table statements None Null answers)

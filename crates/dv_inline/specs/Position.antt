@@ -2,8 +2,12 @@
 use Rattle.std.specs.Prelude.{ℕ, zero, suc, ◌+◌, ◌≡◌, Bool, true, false, List, [], ◌∷◌, map, drop, Option, None, Some}
 use Rattle.std.specs.Prelude.{Result, Ok, Err}
 use Rattle.std.specs.declared.alloc.AllocError.{AllocError}
-use Rattle.dv_inline.specs.Meaning.{ended}
+use Rattle.dv_inline.specs.Meaning.{ended, raised, no_active}
 use Rattle.dv_inline.specs.declared.open.Catch.{Catch}
+use Rattle.dv_inline.specs.declared.open.Inside.{Inside}
+use Rattle.dv_inline.specs.declared.open.Inside.TheVariants as inside
+use Rattle.dv_inline.specs.declared.open.Onward.{Onward}
+use Rattle.dv_inline.specs.declared.open.Onward.TheVariants as onward
 use Rattle.dv_inline.specs.declared.open.Open.{Open}
 use Rattle.dv_inline.specs.declared.want.Want.{Want}
 use Rattle.dv_inline.specs.declared.want.Want.TheVariants.{Do, Await}
@@ -16,44 +20,141 @@ use Rattle.dv_value.specs.Classes.{check}
 use Rattle.dv_value.specs.Failure.{class_of, failure_in}
 use Rattle.dv_value.specs.declared.classes.Class.{Class}
 use Rattle.dv_value.specs.declared.failure.Failure.{Failure}
-use Rattle.dv_value.specs.declared.value.Value.{Value, Null, Fault}
+use Rattle.dv_value.specs.declared.value.Value.{Value, Null, Fault, List as ListOf}
 
--- the statements left, the tries round them from the innermost, the present value, and the result once the body is over
+-- the classes of the script, the statements left, the tries and finallys round them from the innermost, the present
+-- value, and the result once the body is over
 pub record Position : Type 0 where
+  pub classes : List Class
   pub statements : List Statement
-  pub tries : List Open
+  pub opens : List Open
   pub value : Value
   pub result : Option Value
 
 -- at the whole body
-abbrev pub started : List Statement → Position
-started statements = record { statements = statements; tries = []; value = Null; result = None }
+abbrev pub started : List Class → List Statement → Position
+started classes statements =
+    record { classes = classes; statements = statements; opens = []; value = Null; result = None }
 
 -- the body is over with this
 abbrev pub over_with : Value → Position → Position
 over_with result p = record p { value = Null; result = Some result }
 
--- into a `try`: its first statements, with what it catches and what follows it
-abbrev pub into_try : List Statement → List ℕ → List Statement → List Statement → Position → Position
-into_try first listed second rest p = record p {
+-- into a `try` or a `finally`, which this follows: its first statements
+abbrev pub into : List Statement → Inside → List Statement → Position → Position
+into first place rest p = record p {
   statements = first;
-  tries = record { catch = Some (record { classes = listed; second = second }); rest = rest } ∷ p.tries;
+  opens = record { inside = place; rest = rest } ∷ p.opens;
 }
 
--- behind the last statement: on to what follows the innermost `try`, or the end of the body, whose result is null
+-- into the second statements of the innermost, on null
+abbrev pub into_second : List Statement → Inside → List Statement → List Open → Position → Position
+into_second second place rest opens p =
+    record p { statements = second; opens = record { inside = place; rest = rest } ∷ opens; value = Null }
+
+-- the failure for which second statements run
+abbrev pub failure_at : Inside → Option Failure
+failure_at (inside.Try catch) = None
+failure_at (inside.Caught failure) = Some failure
+failure_at (inside.Finally second) = None
+failure_at (inside.Ending (onward.Past v)) = None
+failure_at (inside.Ending (onward.Thrown failure)) = Some failure
+failure_at (inside.Ending (onward.Left v)) = None
+
+-- the innermost of these is the active one
+abbrev pub inner_or : Option Failure → Option Failure → Option Failure
+inner_or None outer = outer
+inner_or (Some failure) outer = Some failure
+
+abbrev pub active : List Open → Option Failure
+active [] = None
+active (around ∷ opens) = inner_or (failure_at around.inside) (active opens)
+
+-- the class by which a failure is caught
+abbrev pub class_caught : List Class → Failure → Inside → Option ℕ
+class_caught table failure (inside.Try catch) = check table (class_of failure) catch.classes
+class_caught table failure (inside.Caught other) = None
+class_caught table failure (inside.Finally second) = None
+class_caught table failure (inside.Ending how) = None
+
+-- the second statements of a `try` that catches it
+abbrev pub second_for : Option ℕ → Inside → Option (List Statement)
+second_for None place = None
+second_for (Some class) (inside.Try catch) = Some catch.second
+second_for (Some class) (inside.Caught failure) = None
+second_for (Some class) (inside.Finally second) = None
+second_for (Some class) (inside.Ending how) = None
+
+-- the second statements of a `finally` that are ahead
+abbrev pub ahead : Inside → Option (List Statement)
+ahead (inside.Try catch) = None
+ahead (inside.Caught failure) = None
+ahead (inside.Finally second) = Some second
+ahead (inside.Ending how) = None
+
+-- a failure that a `try` catches goes to its second statements. Where those of a `finally` are ahead it goes to them,
+-- to be thrown on after them; else it goes outward
+abbrev pub thrown_to : Position → Failure → Option (List Statement) → Option (List Statement) → List Statement
+    → List Open → Position → Position
+thrown_to outer failure (Some second) next rest opens p = into_second second (inside.Caught failure) rest opens p
+thrown_to outer failure None (Some second) rest opens p =
+    into_second second (inside.Ending (onward.Thrown failure)) rest opens p
+thrown_to outer failure None None rest opens p = outer
+
+-- to the innermost `try` that catches it, or `finally`; where there is none, it is the result
+abbrev pub thrown_from : Failure → List Open → Position → Position
+thrown_from failure [] p = over_with (Fault failure) (record p { opens = [] })
+thrown_from failure (around ∷ opens) p =
+    thrown_to (thrown_from failure opens p) failure
+    (second_for (class_caught p.classes failure around.inside) around.inside) (ahead around.inside) around.rest opens p
+
+-- what an end leaves the body with goes to the second statements of a `finally`, to leave it after them; else it goes
+-- outward
+abbrev pub left_to : Position → Value → Option (List Statement) → List Statement → List Open → Position → Position
+left_to outer v (Some second) rest opens p = into_second second (inside.Ending (onward.Left v)) rest opens p
+left_to outer v None rest opens p = outer
+
+-- to the innermost `finally`; where there is none, it is the result
+abbrev pub left_from : Value → List Open → Position → Position
+left_from v [] p = over_with v (record p { opens = [] })
+left_from v (around ∷ opens) p = left_to (left_from v opens p) v (ahead around.inside) around.rest opens p
+
+-- past the second statements of a `finally`, which this follows: on as the first ended
+abbrev pub gone_on : Onward → List Statement → Position → Position
+gone_on (onward.Past v) rest p = record p { statements = rest; value = v }
+gone_on (onward.Thrown failure) rest p = thrown_from failure p.opens p
+gone_on (onward.Left v) rest p = left_from v p.opens p
+
+-- out of the innermost, which this follows: on to that, or to the second statements of a `finally`
+abbrev pub out_of : Inside → List Statement → Position → Position
+out_of (inside.Try catch) rest p = record p { statements = rest }
+out_of (inside.Caught failure) rest p = record p { statements = rest }
+out_of (inside.Finally second) rest p = into_second second (inside.Ending (onward.Past p.value)) rest p.opens p
+out_of (inside.Ending how) rest p = gone_on how rest p
+
+-- behind the last statement: out of the innermost `try` or `finally`, or to the end of the body, whose result is null
 abbrev pub outward : List Open → Position → Position
 outward [] p = over_with Null p
-outward (around ∷ tries) p = record p { statements = around.rest; tries = tries }
+outward (around ∷ opens) p = out_of around.inside around.rest (record p { opens = opens })
+
+-- with `caught` the present value becomes a list of the active failure alone, where there is one
+abbrev pub caught_from : Option Failure → List Statement → Position → Position
+caught_from (Some failure) rest p = record p { statements = rest; value = ListOf (Fault failure ∷ []) }
+caught_from None rest p = thrown_from no_active p.opens p
 
 -- one move that needs no answer, where there is one
 abbrev pub moved_by : Statement-F Action Statement Body → List Statement → Position → Option Position
 moved_by (Statement-F.Do action) rest p = None
 moved_by (Statement-F.Await name) rest p = None
-moved_by (Statement-F.Try first listed second) rest p = Some (into_try first listed second rest p)
-moved_by (Statement-F.End e) rest p = Some (over_with (ended e p.value) p)
+moved_by (Statement-F.Try first listed second) rest p =
+    Some (into first (inside.Try (record { classes = listed; second = second })) rest p)
+moved_by (Statement-F.Finally first second) rest p = Some (into first (inside.Finally second) rest p)
+moved_by Statement-F.Raise rest p = Some (thrown_from (raised (active p.opens)) p.opens p)
+moved_by Statement-F.Caught rest p = Some (caught_from (active p.opens) rest p)
+moved_by (Statement-F.End e) rest p = Some (left_from (ended e p.value) p.opens (record p { value = Null }))
 
 abbrev pub moved_in : List Statement → Position → Option Position
-moved_in [] p = Some (outward p.tries p)
+moved_in [] p = Some (outward p.opens p)
 moved_in (statement ∷ rest) p = moved_by (out-Statement statement) rest p
 
 abbrev pub moved_unless : Option Value → Position → Option Position
@@ -81,6 +182,9 @@ abbrev pub statement_step : Statement-F ℕ ℕ ℕ → ℕ
 statement_step (Statement-F.Do action) = 1
 statement_step (Statement-F.Await name) = 1
 statement_step (Statement-F.Try first listed second) = 3 + total first + total second
+statement_step (Statement-F.Finally first second) = 3 + total first + total second
+statement_step Statement-F.Raise = 1
+statement_step Statement-F.Caught = 1
 statement_step (Statement-F.End e) = 1
 
 abbrev pub statement_size : Statement → ℕ
@@ -90,16 +194,22 @@ abbrev pub statements_size : List Statement → ℕ
 statements_size statements = total (map statement_size statements)
 
 -- how much is left of it, at most
-abbrev pub tries_size : List Open → ℕ
-tries_size [] = 0
-tries_size (around ∷ tries) = 1 + statements_size around.rest + tries_size tries
+abbrev pub inside_size : Inside → ℕ
+inside_size (inside.Try catch) = 1 + statements_size catch.second
+inside_size (inside.Caught failure) = 0
+inside_size (inside.Finally second) = 1 + statements_size second
+inside_size (inside.Ending how) = 0
+
+abbrev pub opens_size : List Open → ℕ
+opens_size [] = 0
+opens_size (around ∷ opens) = 1 + inside_size around.inside + statements_size around.rest + opens_size opens
 
 abbrev pub result_size : Option Value → ℕ
 result_size None = 1
 result_size (Some result) = 0
 
 abbrev pub position_size : Position → ℕ
-position_size p = result_size p.result + statements_size p.statements + tries_size p.tries
+position_size p = result_size p.result + statements_size p.statements + opens_size p.opens
 
 -- as many moves as there are, up to this many
 abbrev pub goes_on : (Position → Position) → Position → Option Position → Position
@@ -119,6 +229,9 @@ abbrev pub want_by : Statement-F Action Statement Body → Option Want
 want_by (Statement-F.Do action) = Some (Do action)
 want_by (Statement-F.Await name) = Some (Await name)
 want_by (Statement-F.Try first listed second) = None
+want_by (Statement-F.Finally first second) = None
+want_by Statement-F.Raise = None
+want_by Statement-F.Caught = None
 want_by (Statement-F.End e) = None
 
 abbrev pub want_in : List Statement → Option Want
@@ -132,47 +245,23 @@ want_unless (Some result) p = None
 abbrev pub want_at : Position → Option Want
 want_at p = want_unless p.result p
 
--- the class by which a failure is caught
-abbrev pub class_caught : List Class → Failure → Option Catch → Option ℕ
-class_caught table failure None = None
-class_caught table failure (Some catch) = check table (class_of failure) catch.classes
-
--- the second statements of a `try` that catches it
-abbrev pub second_for : Option ℕ → Option Catch → Option (List Statement)
-second_for None catch = None
-second_for (Some class) None = None
-second_for (Some class) (Some catch) = Some catch.second
-
--- a failure that a `try` catches goes to its second statements, on null; another goes outward
-abbrev pub thrown_to : Position → Option (List Statement) → List Statement → List Open → Position → Position
-thrown_to outer None rest tries p = outer
-thrown_to outer (Some second) rest tries p =
-    record p { statements = second; tries = record { catch = None; rest = rest } ∷ tries; value = Null }
-
--- to the innermost `try` that catches it; where there is none, it is the result
-abbrev pub thrown_from : List Class → Failure → List Open → Position → Position
-thrown_from table failure [] p = over_with (Fault failure) (record p { tries = [] })
-thrown_from table failure (around ∷ tries) p =
-    thrown_to (thrown_from table failure tries p)
-    (second_for (class_caught table failure around.catch) around.catch) around.rest tries p
-
 -- past the first statement, with this present value
 abbrev pub passed : Value → Position → Position
 passed v p = record p { statements = drop 1 p.statements; value = v }
 
 -- so it goes on, or a failure is thrown there
-abbrev pub went_on : List Class → Option Failure → Value → Position → Position
-went_on table None v p = passed v p
-went_on table (Some failure) v p = thrown_from table failure p.tries p
+abbrev pub went_on : Option Failure → Value → Position → Position
+went_on None v p = passed v p
+went_on (Some failure) v p = thrown_from failure p.opens p
 
 -- what the answer is to: a `do` keeps the present value, an `await` takes the answer for it
-abbrev pub answered_to : List Class → Option Want → Value → Position → Position
-answered_to table None answer p = p
-answered_to table (Some (Do action)) answer p = went_on table (failure_in answer) p.value p
-answered_to table (Some (Await name)) answer p = went_on table (failure_in answer) answer p
+abbrev pub answered_to : Option Want → Value → Position → Position
+answered_to None answer p = p
+answered_to (Some (Do action)) answer p = went_on (failure_in answer) p.value p
+answered_to (Some (Await name)) answer p = went_on (failure_in answer) answer p
 
-abbrev pub answered : List Class → Value → Position → Position
-answered table answer p = answered_to table (want_at p) answer p
+abbrev pub answered : Value → Position → Position
+answered answer p = answered_to (want_at p) answer p
 
 -- what a body returns by itself: the result that it reaches with no further answer
 abbrev pub Gives : Position → Result Value AllocError → Type 0

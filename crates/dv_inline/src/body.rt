@@ -13,9 +13,9 @@ use futures::task::{Context, Poll};
 use std::alloc::{AllocError, Global};
 use std::marker::Model;
 
-/// An inline body that is performed: the statements that are left, the tries round them, and the
-/// present value (Twisted: the generator of `inlineCallbacks`). It is on the heap, so that whoever
-/// holds one holds an address.
+/// An inline body that is performed: the statements that are left, the tries and finallys round
+/// them, and the present value (Twisted: the generator of `inlineCallbacks`). It is on the heap, so
+/// that whoever holds one holds an address.
 #[derive(Drop)]
 pub struct InlineBody<'s> {
     walk: Box<Walk<'s>>,
@@ -24,6 +24,8 @@ pub struct InlineBody<'s> {
 impl<'s> Model for InlineBody<'s> {
     ghost use Rattle.dv_inline.specs.Position.{Position};
     ghost use Rattle.dv_script.specs.contracts.body.Statement as statement_contract;
+    ghost use Rattle.dv_value.specs.contracts.classes.Class as class_contract;
+    ghost use Rattle.dv_value.specs.contracts.failure.Failure as failure_contract;
     ghost use Rattle.dv_value.specs.contracts.value.Value as value_contract;
     ghost use Rattle.std.specs.Coded.{codes};
 
@@ -32,6 +34,8 @@ impl<'s> Model for InlineBody<'s> {
     ghost coded = { Prim.hlevel (
       codes,
       statement_contract.the_row.coded,
+      class_contract.the_row.coded,
+      failure_contract.the_row.coded,
       value_contract.the_row.coded,
     ) };
 
@@ -39,14 +43,19 @@ impl<'s> Model for InlineBody<'s> {
 }
 
 impl<'s> InlineBody<'s> {
-    /// A body at its first statement, with the present value null. AllocError where out of memory.
-    pub fn start(alloc: Global, statements: &'s [Statement]) -> Result<InlineBody<'s>, AllocError>
-        ensures stands { IfOk result (λ body. body ≡ started statements.now) }
-        ensures means { IfOk result (λ body. (table : _) → (answers : _)
-            → reached table body answers ≡ inline table statements.now answers) }
+    /// A body at its first statement, with the present value null, in a script of these classes.
+    /// AllocError where out of memory.
+    pub fn start(
+        alloc: Global,
+        classes: &'s Classes,
+        statements: &'s [Statement],
+    ) -> Result<InlineBody<'s>, AllocError>
+        ensures stands { IfOk result (λ body. body ≡ started classes.now statements.now) }
+        ensures means { IfOk result (λ body. (answers : _)
+            → reached body answers ≡ inline classes.now statements.now answers) }
     {
         Ok(InlineBody {
-            walk: Box::new(alloc, Walk::start(alloc, statements))?,
+            walk: Box::new(alloc, Walk::start(alloc, classes, statements))?,
         })
     }
 
@@ -59,14 +68,15 @@ impl<'s> InlineBody<'s> {
     }
 
     /// Goes on with the answer to what stands: a failure is thrown there, and goes to the innermost
-    /// `try` that catches it; any other value is the present one after an `await`, and leaves it as
-    /// it was after a `do`. Where nothing stands, the answer changes nothing. It takes no memory.
+    /// `try` that catches it or `finally`; any other value is the present one after an `await`, and
+    /// leaves it as it was after a `do`. Where nothing stands, the answer changes nothing. It takes
+    /// no memory.
     #[tactic(auto, using(crate::proofs::LeadsLemmas::taken_leads))]
-    pub fn answer(&mut self, classes: &Classes, answer: Value)
-        ensures answered { self.new ≡ answered classes.now answer self.old }
-        ensures leads { IsDue self.old → LeadsBy classes.now answer self.old self.new }
+    pub fn answer(&mut self, answer: Value)
+        ensures answered { self.new ≡ answered answer self.old }
+        ensures leads { IsDue self.old → LeadsBy answer self.old self.new }
     {
-        self.walk.answer(classes, answer);
+        self.walk.answer(answer);
     }
 }
 

@@ -5,6 +5,7 @@
 pub mod body;
 pub mod laws;
 pub mod open;
+pub mod opens;
 pub mod parked;
 pub mod poller;
 mod walk;

@@ -15,6 +15,8 @@ pub struct Parked<'s> {
 impl<'s> Model for Parked<'s> {
     ghost use Rattle.dv_inline.specs.Parked.{Bodies};
     ghost use Rattle.dv_script.specs.contracts.body.Statement as statement_contract;
+    ghost use Rattle.dv_value.specs.contracts.classes.Class as class_contract;
+    ghost use Rattle.dv_value.specs.contracts.failure.Failure as failure_contract;
     ghost use Rattle.dv_value.specs.contracts.value.Value as value_contract;
     ghost use Rattle.std.specs.Coded.{codes};
 
@@ -23,6 +25,8 @@ impl<'s> Model for Parked<'s> {
     ghost coded = { Prim.hlevel (
       codes,
       statement_contract.the_row.coded,
+      class_contract.the_row.coded,
+      failure_contract.the_row.coded,
       value_contract.the_row.coded,
     ) };
 

@@ -1,19 +1,26 @@
-ghost use Rattle.std.specs.Prelude.{◌≡◌, [], Some, None, IfOk, OnOk, IfNone, MatchOption};
-ghost use Rattle.dv_inline.specs.Meaning.{ended};
+ghost use Rattle.std.specs.Prelude.{◌≡◌, ◌≢◌, [], ◌∷◌, Some, None, IfOk, OnOk, IfNone, MatchOption};
+ghost use Rattle.std.specs.Prelude.{drop};
+ghost use Rattle.dv_inline.specs.Meaning.{ended, raised, no_active};
 ghost use Rattle.dv_inline.specs.Position.{started, moved, moved_by, over_with, outward, come};
-ghost use Rattle.dv_inline.specs.Position.{answered, want_at, class_caught, thrown_from, passed};
-ghost use Rattle.dv_inline.specs.Position.{went_on, Moves, MovesTo, second_for};
+ghost use Rattle.dv_inline.specs.Position.{answered, want_at, class_caught, thrown_from, left_from};
+ghost use Rattle.dv_inline.specs.Position.{went_on, Moves, MovesTo, second_for, ahead, active};
+ghost use Rattle.dv_inline.specs.Position.{passed};
+ghost use Rattle.dv_inline.specs.Position.{into, into_second, out_of, gone_on, caught_from};
 ghost use Rattle.dv_script.specs.declared.body.Statement.{out-Statement};
 ghost use Rattle.dv_value.specs.Failure.{failure_in};
+ghost use Rattle.dv_value.specs.declared.value.Value.{Null, Fault, List as ListOf};
 
-use crate::open::{Catch, Open};
+use crate::open::{Catch, Inside, Onward, Open};
+use crate::opens::Opens;
 use crate::want::Want;
 use dv_script::body::{End, Statement};
 use dv_script::lent::{ActionRef, ClassesRef, Statements, TextRef};
 use dv_value::boxed::Boxed;
+use dv_value::class_id::ClassId;
 use dv_value::classes::Classes;
 use dv_value::failure::Failure;
-use dv_value::fault::fault;
+use dv_value::fault::{failure, fault};
+use dv_value::items::Items;
 use dv_value::plus::plus;
 use dv_value::stack::Stack;
 use dv_value::throw::throw;
@@ -22,13 +29,15 @@ use std::alloc::{AllocError, Global};
 use std::marker::Model;
 use std::mem;
 
-/// How far an inline body is: the statements that are left, the tries round them, and the present
-/// value.
+/// How far an inline body is: the statements that are left, the tries and finallys round them, and
+/// the present value.
 #[derive(Drop)]
 pub struct Walk<'s> {
     alloc: Global,
+    /// The classes of the script, by which a `try` catches.
+    classes: &'s Classes,
     statements: Statements<'s>,
-    tries: Stack<Open<'s>>,
+    opens: Opens<'s>,
     value: Value,
     /// The result of the body, once it is over.
     result: Option<Value>,
@@ -37,6 +46,8 @@ pub struct Walk<'s> {
 impl<'s> Model for Walk<'s> {
     ghost use Rattle.dv_inline.specs.Position.{Position};
     ghost use Rattle.dv_script.specs.contracts.body.Statement as statement_contract;
+    ghost use Rattle.dv_value.specs.contracts.classes.Class as class_contract;
+    ghost use Rattle.dv_value.specs.contracts.failure.Failure as failure_contract;
     ghost use Rattle.dv_value.specs.contracts.value.Value as value_contract;
     ghost use Rattle.std.specs.Coded.{codes};
 
@@ -45,12 +56,15 @@ impl<'s> Model for Walk<'s> {
     ghost coded = { Prim.hlevel (
       codes,
       statement_contract.the_row.coded,
+      class_contract.the_row.coded,
+      failure_contract.the_row.coded,
       value_contract.the_row.coded,
     ) };
 
     ghost view = { λ b. record {
+      classes = b.classes.now;
       statements = b.statements;
-      tries = b.tries;
+      opens = b.opens;
       value = b.value;
       result = b.result;
     } };
@@ -58,14 +72,15 @@ impl<'s> Model for Walk<'s> {
 
 impl<'s> Walk<'s> {
     /// A body at its first statement, with the present value null. It takes no memory before it
-    /// goes into a `try`.
-    pub fn start(alloc: Global, statements: &'s [Statement]) -> Walk<'s>
-        ensures { result ≡ started statements.now }
+    /// goes into a `try` or a `finally`.
+    pub fn start(alloc: Global, classes: &'s Classes, statements: &'s [Statement]) -> Walk<'s>
+        ensures { result ≡ started classes.now statements.now }
     {
         Walk {
             alloc,
+            classes,
             statements: Statements::new(statements),
-            tries: Stack::new(alloc),
+            opens: Opens::new(alloc),
             value: Value::Null,
             result: None,
         }
@@ -83,29 +98,34 @@ impl<'s> Walk<'s> {
         match statement {
             Statement::Do(action) => Some(Want::Do(ActionRef::new(action))),
             Statement::Await(name) => Some(Want::Await(TextRef::new(name))),
-            Statement::Try(_, _, _) | Statement::End(_) => None,
+            Statement::Try(_, _, _)
+            | Statement::Finally(_, _)
+            | Statement::Raise
+            | Statement::Caught
+            | Statement::End(_) => None,
         }
     }
 
     /// Goes on with the answer to what stands: a failure is thrown there, and goes to the innermost
-    /// `try` that catches it; any other value is the present one after an `await`, and leaves it as
-    /// it was after a `do`. Where nothing stands, the answer changes nothing. It takes no memory.
-    pub fn answer(&mut self, classes: &Classes, answer: Value)
-        ensures { self.new ≡ answered classes.now answer self.old }
+    /// `try` that catches it or `finally`; any other value is the present one after an `await`, and
+    /// leaves it as it was after a `do`. Where nothing stands, the answer changes nothing. It takes
+    /// no memory.
+    pub fn answer(&mut self, answer: Value)
+        ensures { self.new ≡ answered answer self.old }
     {
         match self.want() {
             None => drop(answer),
-            Some(Want::Do(_)) => self.end_do(classes, answer),
-            Some(Want::Await(_)) => self.end_await(classes, answer),
+            Some(Want::Do(_)) => self.end_do(answer),
+            Some(Want::Await(_)) => self.end_await(answer),
         }
     }
 
     /// Goes past a `do` with the present value as it was, unless the answer is a failure.
-    fn end_do(&mut self, classes: &Classes, answer: Value)
-        ensures { self.new ≡ went_on classes.now (failure_in answer) self.old.value self.old }
+    fn end_do(&mut self, answer: Value)
+        ensures { self.new ≡ went_on (failure_in answer) self.old.value self.old }
     {
         match answer {
-            Value::Fault(failure) => self.throw(classes, failure),
+            Value::Fault(failure) => self.throw(failure),
             Value::Null | Value::Bool(_) | Value::Int(_) | Value::Text(_) | Value::List(_) => {
                 self.pass();
             }
@@ -113,11 +133,11 @@ impl<'s> Walk<'s> {
     }
 
     /// Goes past an `await` with the answer as the present value, unless it is a failure.
-    fn end_await(&mut self, classes: &Classes, answer: Value)
-        ensures { self.new ≡ went_on classes.now (failure_in answer) answer self.old }
+    fn end_await(&mut self, answer: Value)
+        ensures { self.new ≡ went_on (failure_in answer) answer self.old }
     {
         match answer {
-            Value::Fault(failure) => self.throw(classes, failure),
+            Value::Fault(failure) => self.throw(failure),
             Value::Null | Value::Bool(_) | Value::Int(_) | Value::Text(_) | Value::List(_) => {
                 drop(mem::replace(&mut self.value, answer));
                 self.pass();
@@ -134,20 +154,49 @@ impl<'s> Walk<'s> {
         }
     }
 
-    /// A failure is thrown, and goes outward to the first `try` that catches it.
-    fn throw(&mut self, classes: &Classes, failure: Boxed<Failure>)
-        ensures { self.new ≡ thrown_from classes.now failure self.old.tries self.old }
+    /// A failure is thrown, and goes outward to the first `try` that catches it, or the first
+    /// `finally` whose second statements are ahead.
+    fn throw(&mut self, failure: Boxed<Failure>)
+        ensures { self.new ≡ thrown_from failure self.old.opens self.old }
     {
-        while let Some(around) = self.tries.first() {
-            if let Some((second, rest)) = caught_by(classes, failure.get(), around) {
-                self.tries.replace(Open { catch: None, rest });
-                self.statements = second;
-                drop(mem::replace(&mut self.value, Value::Null));
+        while let Some(around) = self.opens.first() {
+            if let Some((second, rest)) = caught_by(self.classes, failure.get(), around) {
+                self.enter(second, Inside::Caught(failure), rest);
                 return;
             }
-            let _ = self.tries.pop();
+            if let Some((second, rest)) = ahead(around) {
+                self.enter(second, Inside::Ending(Onward::Thrown(failure)), rest);
+                return;
+            }
+            self.opens.discard();
         }
         self.end(Value::Fault(failure));
+    }
+
+    /// An end leaves the body with this, by way of each `finally` whose second statements are
+    /// ahead.
+    fn leave(&mut self, outcome: Value)
+        ensures { self.new ≡ left_from outcome self.old.opens self.old }
+    {
+        while let Some(around) = self.opens.first() {
+            if let Some((second, rest)) = ahead(around) {
+                self.enter(second, Inside::Ending(Onward::Left(outcome)), rest);
+                return;
+            }
+            self.opens.discard();
+        }
+        self.end(outcome);
+    }
+
+    /// On to the second statements of the innermost `try` or `finally`, on null.
+    fn enter(&mut self, second: Statements<'s>, inside: Inside<'s>, rest: Statements<'s>)
+        requires { self.old.opens ≢ [] }
+        ensures { self.new ≡ into_second second.entry inside.entry rest.entry
+            (drop 1 self.old.opens) self.old }
+    {
+        self.opens.replace(Open { inside, rest });
+        self.statements = second;
+        drop(mem::replace(&mut self.value, Value::Null));
     }
 
     /// The body is over with this.
@@ -174,17 +223,52 @@ impl<'s> Walk<'s> {
         }
     }
 
-    /// On to what follows the innermost `try`, or to the end of the body.
+    /// Out of the innermost `try` or `finally`, or to the end of the body.
     fn go_outward(&mut self)
-        ensures { self.new ≡ outward self.old.tries self.old }
+        ensures { self.new ≡ outward self.old.opens self.old }
     {
-        match self.tries.pop() {
-            None => self.end(Value::Null),
-            Some(around) => self.statements = around.rest,
+        let Some(around) = self.opens.first() else {
+            self.end(Value::Null);
+            return;
+        };
+        if let Some((second, rest)) = ahead(around) {
+            let value = mem::replace(&mut self.value, Value::Null);
+            self.enter(second, Inside::Ending(Onward::Past(value)), rest);
+            return;
+        }
+        if let Some(around) = self.opens.pop() {
+            self.go_past(around);
         }
     }
 
-    /// Goes into a `try`, or leaves the body, and returns whether it did.
+    /// Past the statement that it was in, whose second statements aren't ahead.
+    fn go_past(&mut self, around: Open<'s>)
+        requires { ahead around.inside ≡ None }
+        ensures { self.new ≡ out_of around.entry.inside around.entry.rest self.old }
+    {
+        let Open { inside, rest } = around;
+        match inside {
+            Inside::Try(_) | Inside::Caught(_) | Inside::Finally(_) => self.statements = rest,
+            Inside::Ending(onward) => self.go_on(onward, rest),
+        }
+    }
+
+    /// On as the first statements of a `finally` ended, which this follows.
+    fn go_on(&mut self, onward: Onward, rest: Statements<'s>)
+        ensures { self.new ≡ gone_on onward rest.entry self.old }
+    {
+        match onward {
+            Onward::Past(value) => {
+                self.statements = rest;
+                drop(mem::replace(&mut self.value, value));
+            }
+            Onward::Thrown(failure) => self.throw(failure),
+            Onward::Left(outcome) => self.leave(outcome),
+        }
+    }
+
+    /// Goes into a `try` or a `finally`, throws or catches the active failure, or leaves the body,
+    /// and returns whether it did.
     fn begin(&mut self, statement: &'s Statement, rest: Statements<'s>) -> Result<bool, AllocError>
         ensures { IfOk result (λ moves. MovesTo moves
             (moved_by (out-Statement statement.now) rest.entry self.old) self.old self.new) }
@@ -192,28 +276,98 @@ impl<'s> Walk<'s> {
         match statement {
             Statement::Do(_) | Statement::Await(_) => Ok(false),
             Statement::Try(first, listed, second) => {
-                let catch = Some(Catch {
+                let inside = Inside::Try(Catch {
                     classes: ClassesRef::new(listed.as_slice()),
                     second: Statements::new(second.as_slice()),
                 });
-                self.tries.push(Open { catch, rest })?;
-                self.statements = Statements::new(first.as_slice());
+                self.go_into(first.as_slice(), inside, rest)?;
+                Ok(true)
+            }
+            Statement::Finally(first, second) => {
+                let inside = Inside::Finally(Statements::new(second.as_slice()));
+                self.go_into(first.as_slice(), inside, rest)?;
+                Ok(true)
+            }
+            Statement::Raise => {
+                self.raise()?;
+                Ok(true)
+            }
+            Statement::Caught => {
+                self.catch(rest)?;
                 Ok(true)
             }
             Statement::End(end) => {
-                self.leave(end)?;
+                self.leave_by(end)?;
                 Ok(true)
             }
         }
     }
 
+    /// Into the first statements of a `try` or a `finally`.
+    fn go_into(
+        &mut self,
+        first: &'s [Statement],
+        inside: Inside<'s>,
+        rest: Statements<'s>,
+    ) -> Result<(), AllocError>
+        ensures { OnOk result (self.new ≡ into first.now inside.entry rest.entry self.old) }
+    {
+        self.opens.push(Open { inside, rest })?;
+        self.statements = Statements::new(first);
+        Ok(())
+    }
+
+    /// Throws the active failure again; RuntimeError where there is none.
+    fn raise(&mut self) -> Result<(), AllocError>
+        ensures { OnOk result (self.new
+            ≡ thrown_from (raised (active self.old.opens)) self.old.opens self.old) }
+    {
+        let thrown = match self.active()? {
+            Some(failure) => failure,
+            None => no_active(self.alloc)?,
+        };
+        self.throw(thrown);
+        Ok(())
+    }
+
+    /// The present value becomes a list of the active failure alone; where there is none,
+    /// RuntimeError is thrown.
+    fn catch(&mut self, rest: Statements<'s>) -> Result<(), AllocError>
+        ensures { OnOk result
+            (self.new ≡ caught_from (active self.old.opens) rest.entry self.old) }
+    {
+        match self.active()? {
+            Some(failure) => {
+                let value = alone(self.alloc, failure)?;
+                drop(mem::replace(&mut self.value, value));
+                self.statements = rest;
+            }
+            None => {
+                let thrown = no_active(self.alloc)?;
+                self.throw(thrown);
+            }
+        }
+        Ok(())
+    }
+
+    /// A failure that equals the active one, where there is one.
+    fn active(&self) -> Result<Option<Boxed<Failure>>, AllocError>
+        ensures { IfOk result (λ found. found ≡ active self.now.opens) }
+    {
+        match self.opens.active() {
+            None => Ok(None),
+            Some(failure) => Ok(Some(copied(self.alloc, failure)?)),
+        }
+    }
+
     /// Leaves the body with an end on the present value.
-    fn leave(&mut self, end: &End) -> Result<(), AllocError>
-        ensures { OnOk result (self.new ≡ over_with (ended end.now self.old.value) self.old) }
+    fn leave_by(&mut self, end: &End) -> Result<(), AllocError>
+        ensures { OnOk result (self.new ≡ left_from (ended end.now self.old.value) self.old.opens
+            (record self.old { value = Null })) }
     {
         let value = mem::replace(&mut self.value, Value::Null);
         let outcome = ended(self.alloc, end, value)?;
-        self.end(outcome);
+        self.leave(outcome);
         Ok(())
     }
 
@@ -242,17 +396,53 @@ fn caught_by<'s>(
     around: &Open<'s>,
 ) -> Option<(Statements<'s>, Statements<'s>)>
     ensures { MatchOption result
-        (second_for (class_caught classes.now failure.now around.now.catch) around.now.catch ≡ None)
-        (λ p. (second_for (class_caught classes.now failure.now around.now.catch) around.now.catch
+        (second_for (class_caught classes.now failure.now around.now.inside) around.now.inside
+        ≡ None)
+        (λ p. (second_for (class_caught classes.now failure.now around.now.inside) around.now.inside
         ≡ Some p.0) × (p.1 ≡ around.now.rest)) }
 {
-    let Some(catch) = &around.catch else {
+    let Inside::Try(catch) = &around.inside else {
         return None;
     };
     failure.check(classes, catch.classes.get())?;
     let second = Statements::new(catch.second.get());
     let rest = Statements::new(around.rest.get());
     Some((second, rest))
+}
+
+/// The second statements of a `finally`, and what follows it, where they are ahead.
+fn ahead<'s>(around: &Open<'s>) -> Option<(Statements<'s>, Statements<'s>)>
+    ensures { MatchOption result (ahead around.now.inside ≡ None)
+        (λ p. (ahead around.now.inside ≡ Some p.0) × (p.1 ≡ around.now.rest)) }
+{
+    let Inside::Finally(second) = &around.inside else {
+        return None;
+    };
+    let second = Statements::new(second.get());
+    let rest = Statements::new(around.rest.get());
+    Some((second, rest))
+}
+
+/// What is thrown where no failure is active (Twisted: a bare `raise` outside of any `except`).
+fn no_active(alloc: Global) -> Result<Boxed<Failure>, AllocError>
+    ensures { IfOk result (λ f. f ≡ no_active) }
+{
+    failure(alloc, ClassId::RUNTIME_ERROR, "no active exception")
+}
+
+fn copied(alloc: Global, failure: &Failure) -> Result<Boxed<Failure>, AllocError>
+    ensures { IfOk result (λ f. f ≡ failure.now) }
+{
+    Boxed::new(alloc, failure.copy(alloc)?)
+}
+
+/// A list of a failure alone.
+fn alone(alloc: Global, failure: Boxed<Failure>) -> Result<Value, AllocError>
+    ensures { IfOk result (λ v. v ≡ ListOf (Fault failure ∷ [])) }
+{
+    let mut items = Items::new(alloc);
+    items.push(Value::Fault(failure))?;
+    Ok(Value::List(items))
 }
 
 /// What an end returns for the present value. A body has no `Trap`, no `Wait` and no `Run`: they

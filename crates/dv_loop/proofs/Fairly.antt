@@ -231,7 +231,7 @@ tick_taken m left (Some now) = Pays (omega arith)
 
 -- inline bodies
 go_with : (m : ℕ) (i : Inline) (v : Value) (p : Position) → waiting_text p ≤ m → Within m (page.go_with i v p)
-go_with m i v p q = λ w. (tt, (omega (arith, answer_text w.classes v p, q), tt))
+go_with m i v p q = (tt, (omega (arith, answer_text v p, q), tt))
 
 same_now : (p : Position) (o : Option (Position × Value)) (now : Position × Value) → IsSame p o → o ≡ Some now
     → now.0 ≡ p

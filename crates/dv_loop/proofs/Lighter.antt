@@ -14,7 +14,8 @@ use Rattle.dv_frames.specs.declared.frame.Frame.{Frame}
 use Rattle.dv_frames.specs.declared.frame.Inlining.TheVariants.{Goes, Acted, Awaited}
 use Rattle.dv_frames.specs.declared.frame.Inlining.{Inlining}
 use Rattle.dv_inline.specs.Position.{total, Position, want_at}
-use Rattle.dv_inline.specs.declared.open.Catch.{Catch}
+use Rattle.dv_inline.specs.declared.open.Inside.{Inside}
+use Rattle.dv_inline.specs.declared.open.Inside.TheVariants as inside
 use Rattle.dv_inline.specs.declared.open.Open.{Open}
 use Rattle.dv_inline.specs.declared.want.Want.{Want}
 use Rattle.dv_objects.specs.declared.reached.Reached.TheVariants as reached
@@ -89,6 +90,9 @@ abbrev statement_step : Statement-F ℕ ℕ ℕ → ℕ
 statement_step (Statement-F.Do action) = 1 + action
 statement_step (Statement-F.Await name) = 2
 statement_step (Statement-F.Try first classes second) = 3 + total first + total second
+statement_step (Statement-F.Finally first second) = 3 + total first + total second
+statement_step Statement-F.Raise = 1
+statement_step Statement-F.Caught = 1
 statement_step (Statement-F.End end) = 1
 
 -- a body counts one, and what its actions count
@@ -130,18 +134,20 @@ begun_size x = action_within (map-Action Action Statement Body ℕ ℕ ℕ actio
 pub begun_fits : (action : Action) → begun_size (out-Action action) < action_size action
 begun_fits action = omega (arith, fold_out-Action ℕ ℕ ℕ action_step statement_step body_step action)
 
--- what the tries hold that are round an inline body
-abbrev pub catch_size : Option Catch → ℕ
-catch_size None = 0
-catch_size (Some catch) = 1 + statements_size catch.second
+-- what the tries and finallys hold that are round an inline body
+abbrev pub inside_size : Inside → ℕ
+inside_size (inside.Try catch) = 1 + statements_size catch.second
+inside_size (inside.Caught failure) = 0
+inside_size (inside.Finally second) = 1 + statements_size second
+inside_size (inside.Ending how) = 0
 
-abbrev pub tries_size : List Open → ℕ
-tries_size [] = 0
-tries_size (around ∷ tries) = 1 + catch_size around.catch + statements_size around.rest + tries_size tries
+abbrev pub opens_size : List Open → ℕ
+opens_size [] = 0
+opens_size (around ∷ opens) = 1 + inside_size around.inside + statements_size around.rest + opens_size opens
 
 -- what is left of a body that isn't over
 abbrev pub text_by : Option Value → Position → ℕ
-text_by None p = 1 + statements_size p.statements + tries_size p.tries
+text_by None p = 1 + statements_size p.statements + opens_size p.opens
 text_by (Some result) p = 0
 
 abbrev pub text_of : Position → ℕ
@@ -356,6 +362,6 @@ carry_out m itself (Action-F.PauseTask name) q = λ w. (tt, λ t e. λ v. (tt, �
 carry_out m itself (Action-F.StopTask name) q =
     λ w. (tt, λ t e. λ v. (tt, λ x k. (end_task m t Stopped (omega (arith, q)), λ end j. tt)))
 carry_out m itself (Action-F.ResumeTask name) q = λ w. (tt, λ t e. λ v. (tt, λ x k. (tt, tt)))
-carry_out m itself (Action-F.Inline name statements) q = λ w v. (tt, (omega (arith, q), tt))
+carry_out m itself (Action-F.Inline name statements) q = λ u w v. (tt, (omega (arith, q), tt))
 carry_out m itself (Action-F.Thread name delay work) q = λ w v. (tt, λ u. tt)
 carry_out m itself (Action-F.ThreadIn name pool delay work) q = λ w v. (tt, λ u. tt)

@@ -19,6 +19,8 @@ pub struct Inlines<'s> {
 impl<'s> Model for Inlines<'s> {
     ghost use Rattle.std.specs.Coded.{codes};
     ghost use Rattle.dv_script.specs.contracts.body.Statement as statement_contract;
+    ghost use Rattle.dv_value.specs.contracts.classes.Class as class_contract;
+    ghost use Rattle.dv_value.specs.contracts.failure.Failure as failure_contract;
     ghost use Rattle.dv_value.specs.contracts.value.Value as value_contract;
     ghost use Rattle.dv_objects.specs.Inlines.{Inlines as Seen, seen_all, IsKept};
 
@@ -27,6 +29,8 @@ impl<'s> Model for Inlines<'s> {
     ghost coded = { Prim.hlevel (
       codes,
       statement_contract.the_row.coded,
+      class_contract.the_row.coded,
+      failure_contract.the_row.coded,
       value_contract.the_row.coded,
     ) };
 

@@ -1,5 +1,5 @@
 -- What is neither an array nor an object has no text that is asked of.
-use Rattle.std.proofs.Common.{◌≡◌, ℕ, zero, suc, Bool, true, refl}
+use Rattle.std.proofs.Common.{◌≡◌, ℕ, zero, suc, true, refl}
 use Rattle.serde_json.specs.Data.{Data, null, boolean, number, string, array, object}
 use Rattle.dv_forms.specs.Wants.{member_want}
 use Rattle.dv_questions.specs.Asking.{all_suit, is_scalar}

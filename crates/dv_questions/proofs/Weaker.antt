@@ -11,13 +11,16 @@ use Rattle.dv_forms.specs.declared.want.Want.TheVariants as want
 use Rattle.dv_forms.specs.declared.want.Leaf.{Leaf}
 use Rattle.dv_forms.specs.declared.want.Call.{Call}
 use Rattle.dv_forms.specs.declared.want.Keyed.{Keyed}
+use Rattle.dv_forms.specs.declared.want.Keyed.TheVariants as keyed
+use Rattle.dv_forms.specs.declared.want.Leaf.TheVariants as leaf_of
+use Rattle.dv_forms.specs.declared.want.Object.TheVariants as object
 use Rattle.dv_forms.specs.Wants.{item_want, key_want, keys_in, member_want, pair_wants}
 use Rattle.dv_forms.specs.Words.{wants_of}
 use Rattle.dv_questions.specs.Questions.{Asked, words, names, classes, pools, bodies, every, stands, is_named}
 use Rattle.dv_questions.specs.Questions.{is_known, is_pooled, is_declared}
 use Rattle.dv_questions.specs.Asking.{count, if_there, each_item, each_member, one_for_one, arguments_suit, word_suits}
 use Rattle.dv_questions.specs.Asking.{call_suits}
-use Rattle.dv_questions.specs.Asking.{keys_suit, in_parts, all_suit}
+use Rattle.dv_questions.specs.Asking.{keys_suit, name_suits, in_parts, all_suit}
 
 both : {a b : Bool} → a ≡ true → b ≡ true → (a && b) ≡ true
 both h k = rw (h, k) refl
@@ -77,6 +80,12 @@ keys_too f g k o d (key ∷ keys) h =
     both (there_too (f (key_want o key)) (g (key_want o key)) (k (key_want o key)) (get key d) p.0)
     (keys_too f g k o d keys p.1)
 
+name_too : (a b : Asked) → IsWeaker a b → (o : Keyed) (x : List ℕ) → name_suits a o x ≡ true → name_suits b o x ≡ true
+name_too a b weak (keyed.Script version) x h = refl
+name_too a b weak keyed.Cooperator x h = refl
+name_too a b weak keyed.Failure x h = refl
+name_too a b weak keyed.Body x h = weak.leaf (leaf_of.Found object.Body) x h
+
 parts_too : (a b : Asked) (f g : Want → Data → Bool) → IsWeaker a b → Leads f g → (w : Want) (d : Data)
     → in_parts a f w d ≡ true → in_parts b g w d ≡ true
 parts_too a b f g weak k (want.Leaf l) d h = there_too (a.of_leaf l) (b.of_leaf l) (weak.leaf l) (as_str d) h
@@ -87,8 +96,11 @@ parts_too a b f g weak k (want.Pair p) d h =
     there_too (one_for_one f (pair_wants p)) (one_for_one g (pair_wants p)) (one_too f g k (pair_wants p))
     (as_array d) h
 parts_too a b f g weak k (want.Keyed o) d h =
-    let p = and_parts (a.of_object o) (keys_suit f o d (keys_in o)) h in
-    both (weak.object o p.0) (keys_too f g k o d (keys_in o) p.1)
+    let p = and_parts (a.of_object o) (if_there (name_suits a o) (as_str d) && keys_suit f o d (keys_in o)) h in
+    let q = and_parts (if_there (name_suits a o) (as_str d)) (keys_suit f o d (keys_in o)) p.1 in
+    both (weak.object o p.0)
+    (both (there_too (name_suits a o) (name_suits b o) (name_too a b weak o) (as_str d) q.0)
+    (keys_too f g k o d (keys_in o) q.1))
 parts_too a b f g weak k (want.Array i) d h =
     there_too (each_item (f (item_want i))) (each_item (g (item_want i)))
     (each_too (f (item_want i)) (g (item_want i)) (k (item_want i))) (as_array d) h

@@ -6,6 +6,9 @@ use Rattle.dv_forms.specs.declared.want.Want.{Want}
 use Rattle.dv_forms.specs.declared.want.Want.TheVariants as want
 use Rattle.dv_forms.specs.declared.want.Call.{Call}
 use Rattle.dv_forms.specs.declared.want.Keyed.{Keyed}
+use Rattle.dv_forms.specs.declared.want.Keyed.TheVariants as keyed
+use Rattle.dv_forms.specs.declared.want.Leaf.TheVariants as leaf
+use Rattle.dv_forms.specs.declared.want.Object.TheVariants as object
 use Rattle.dv_forms.specs.Wants.{item_want, key_want, keys_in, member_want, pair_wants}
 use Rattle.dv_forms.specs.Words.{wants_of}
 use Rattle.dv_questions.specs.Questions.{Asked}
@@ -64,6 +67,13 @@ abbrev pub keys_suit : (Want → Data → Bool) → Keyed → Data → List (Lis
 keys_suit good k d [] = true
 keys_suit good k d (key ∷ keys) = if_there (good (key_want k key)) (get key d) && keys_suit good k d keys
 
+-- of a text at the place of an object: it may name a body
+abbrev pub name_suits : Asked → Keyed → List ℕ → Bool
+name_suits a (keyed.Script version) name = true
+name_suits a keyed.Cooperator name = true
+name_suits a keyed.Failure name = true
+name_suits a keyed.Body name = a.of_leaf (leaf.Found object.Body) name
+
 -- of a value at a place that asks for this, by what its parts are found to be; no other value has a text that a
 -- question asks of
 abbrev pub in_parts : Asked → (Want → Data → Bool) → Want → Data → Bool
@@ -71,7 +81,8 @@ in_parts a good (want.Leaf l) d = if_there (a.of_leaf l) (as_str d)
 in_parts a good want.Value d = if_there (each_member good) (as_array d)
 in_parts a good (want.Call c) d = if_there (call_suits a good c) (as_array d)
 in_parts a good (want.Pair p) d = if_there (one_for_one good (pair_wants p)) (as_array d)
-in_parts a good (want.Keyed k) d = a.of_object k && keys_suit good k d (keys_in k)
+in_parts a good (want.Keyed k) d =
+    a.of_object k && (if_there (name_suits a k) (as_str d) && keys_suit good k d (keys_in k))
 in_parts a good (want.Array i) d = if_there (each_item (good (item_want i))) (as_array d)
 in_parts a good (want.Word c) d = if_there (a.of_word c) (as_str d)
 in_parts a good (want.Other k) d = true

@@ -13,7 +13,7 @@ use Rattle.dv_forms.specs.declared.want.Call.{Call}
 use Rattle.dv_forms.specs.declared.want.Keyed.{Keyed}
 use Rattle.dv_forms.specs.declared.want.Keyed.TheVariants as keyed
 use Rattle.dv_forms.specs.Words.{may_stand}
-use Rattle.dv_forms.specs.declared.versions.TheConstants.{COMMENTS_SINCE, FAILURES_SINCE}
+use Rattle.dv_forms.specs.declared.versions.TheConstants.{BODIES_SINCE, COMMENTS_SINCE, FAILURES_SINCE}
 use Rattle.dv_questions.specs.declared.question.Question.{Question}
 use Rattle.dv_questions.specs.declared.question.Question.TheVariants as question
 use Rattle.dv_questions.specs.Names.{is_name, names_one}
@@ -43,12 +43,23 @@ is_named version leaf.ListFlag name = true
 is_named version leaf.GatherFlag name = true
 is_named version leaf.Comment name = true
 
--- whether a text may stand at such a place in a script of this version, whatever it says: only a comment needs a later
--- one
+-- whether a script of this version may have such an object: only a body by name needs a later one
+abbrev pub has_object : ℕ → Object → Bool
+has_object version object.Deferred = true
+has_object version object.Lock = true
+has_object version object.Queue = true
+has_object version object.Call = true
+has_object version object.Loop = true
+has_object version object.Task = true
+has_object version object.Pool = true
+has_object version object.Class = true
+has_object version object.Body = nat_le BODIES_SINCE version
+
+-- whether a text may stand at such a place in a script of this version, whatever it says
 abbrev pub stands : ℕ → Leaf → Bool
 stands version leaf.Text = true
 stands version (leaf.New o) = true
-stands version (leaf.Found o) = true
+stands version (leaf.Found o) = has_object version o
 stands version leaf.Integer = true
 stands version (leaf.Number low high) = true
 stands version leaf.Boolean = true

@@ -6,12 +6,12 @@ ghost use Rattle.serde_json.specs.Find.{as_array, as_str, get};
 ghost use Rattle.dv_forms.specs.Wants.{key_want, keys_in, member_want};
 ghost use Rattle.dv_forms.specs.Words.{may_stand};
 ghost use Rattle.dv_questions.specs.Asking.{all_suit, call_suits, each_item, each_member};
-ghost use Rattle.dv_questions.specs.Asking.{if_there, is_scalar, keys_suit, one_for_one};
-ghost use Rattle.dv_questions.specs.Asking.{word_suits};
+ghost use Rattle.dv_questions.specs.Asking.{if_there, is_scalar, keys_suit, name_suits};
+ghost use Rattle.dv_questions.specs.Asking.{one_for_one, word_suits};
 ghost use Rattle.dv_questions.specs.Questions.{asked_by};
 
 use crate::question::Question;
-use dv_forms::want::{Call, Keyed, Leaf, Want, member_want};
+use dv_forms::want::{Call, Keyed, Leaf, Object, Want, member_want};
 use dv_forms::words::form_of;
 use serde_json::Value as Json;
 
@@ -29,6 +29,26 @@ fn first_suits(question: &Question<'_>, call: Call, json: &Json) -> bool
 {
     match json.as_str() {
         Some(word) => question.of_word(call, word),
+        None => true,
+    }
+}
+
+/// Whether a text at the place of an object answers well: it may name a body.
+fn name_suits(question: &Question<'_>, keyed: Keyed, name: &str) -> bool
+    ensures { result ≡ name_suits (asked_by question.now) keyed name.now }
+{
+    match keyed {
+        Keyed::Script(_) | Keyed::Cooperator | Keyed::Failure => true,
+        Keyed::Body => question.of_leaf(Leaf::Found(Object::Body), name),
+    }
+}
+
+fn object_suits(question: &Question<'_>, keyed: Keyed, json: &Json) -> bool
+    ensures { result ≡ if_there (name_suits (asked_by question.now) keyed)
+        (as_str (view json.now)) }
+{
+    match json.as_str() {
+        Some(name) => name_suits(question, keyed, name),
         None => true,
     }
 }
@@ -57,7 +77,9 @@ pub fn all_suit(question: &Question<'_>, levels: u32, want: Want, json: &Json) -
                 true,
         },
         Want::Keyed(keyed) => {
-            question.of_object(keyed) && keys_suit(question, levels - 1, keyed, json)
+            question.of_object(keyed)
+                && (object_suits(question, keyed, json)
+                    && keys_suit(question, levels - 1, keyed, json))
         }
         Want::Array(item) => match json {
             Json::Array(items) => { each_item(question, levels - 1, item.want(), items.as_slice()) }

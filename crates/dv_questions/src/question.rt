@@ -4,10 +4,11 @@ ghost use Rattle.std.specs.Prelude.{◌≡◌, ◌≤◌, ◌&&◌, ℕ, true};
 ghost use Rattle.dv_forms.specs.Words.{may_stand};
 ghost use Rattle.dv_questions.specs.Questions.{is_found_named, is_named, is_class, is_pool, stands};
 ghost use Rattle.dv_questions.specs.Questions.{is_known, is_among, is_pooled, is_body};
-ghost use Rattle.dv_questions.specs.Questions.{has_body, is_declared, object_stands, asked_by};
+ghost use Rattle.dv_questions.specs.Questions.{has_body, has_object, is_declared, object_stands};
+ghost use Rattle.dv_questions.specs.Questions.{asked_by};
 
 use crate::names::{is_name, names_one};
-use dv_forms::versions::{COMMENTS_SINCE, FAILURES_SINCE};
+use dv_forms::versions::{BODIES_SINCE, COMMENTS_SINCE, FAILURES_SINCE};
 use dv_forms::want::{Call, Keyed, Leaf, Object};
 use dv_forms::words::may_stand;
 use dv_script::script::{NamedBody, NamedPool};
@@ -64,15 +65,32 @@ pub fn is_named(version: u32, leaf: Leaf, name: &str) -> bool
     }
 }
 
+/// Whether a script of this version may have such an object.
+pub fn has_object(version: u32, object: Object) -> bool
+    ensures { result ≡ has_object version object }
+{
+    match object {
+        Object::Body => BODIES_SINCE <= version,
+        Object::Deferred
+        | Object::Lock
+        | Object::Queue
+        | Object::Call
+        | Object::Loop
+        | Object::Task
+        | Object::Pool
+        | Object::Class => true,
+    }
+}
+
 /// Whether a text may stand at such a place in a script of this version, whatever it says.
 fn stands(version: u32, leaf: Leaf) -> bool
     ensures { result ≡ stands version leaf }
 {
     match leaf {
         Leaf::Comment => COMMENTS_SINCE <= version,
+        Leaf::Found(object) => has_object(version, object),
         Leaf::Text
         | Leaf::New(_)
-        | Leaf::Found(_)
         | Leaf::Integer
         | Leaf::Number(_, _)
         | Leaf::Boolean
@@ -229,7 +247,9 @@ fn suits_every(
         Leaf::Found(Object::Deferred) => names_one(version, name),
         Leaf::Found(Object::Class) => classes.find(name).is_some(),
         Leaf::Found(Object::Pool) => is_name(version, name) && is_among(name, pools),
-        Leaf::Found(Object::Body) => is_name(version, name) && has_body(name, bodies),
+        Leaf::Found(Object::Body) => {
+            has_object(version, Object::Body) && is_name(version, name) && has_body(name, bodies)
+        }
         Leaf::New(_)
         | Leaf::Found(Object::Lock | Object::Queue | Object::Call | Object::Loop | Object::Task) =>
             is_name(version, name),

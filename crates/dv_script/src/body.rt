@@ -40,6 +40,14 @@ pub enum Statement {
     Await(Text),
     /// The first statements, and where these classes are thrown there, the second ones.
     Try(Items<Statement>, Items<ClassId>, Items<Statement>),
+    /// The first statements, and then the second ones, however the first ended: past their last
+    /// one, by a failure or by an end. After the second it goes on as the first ended.
+    Finally(Items<Statement>, Items<Statement>),
+    /// Throws the active failure again: the one that the innermost `try` caught whose second
+    /// statements it is in, or for which the innermost `finally` runs its second ones.
+    Raise,
+    /// The present value becomes a list of the active failure alone.
+    Caught,
     /// Leaves the inline body, whose input is the present value: `Return`, `Pass`, `Plus`, `Raise`
     /// or `Throw`.
     End(End),

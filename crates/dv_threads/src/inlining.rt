@@ -32,10 +32,11 @@ pub fn begin_inline<'s>(
     requires done { turn.old.performed ≡ Done }
     ensures { OnOk result (turn.new ≡ after (page.inline name.entry statements.entry) turn.old) }
 {
+    let classes = turn.world.classes();
     let of = turn.world.next_id();
     let id = turn.world.add_inline()?;
     turn.world.make(Some(name), Some(Canceller::Inline(id)))?;
-    let body = InlineBody::start(turn.alloc, statements.get())?;
+    let body = InlineBody::start(turn.alloc, classes, statements.get())?;
     turn.stack
         .push(Frame::Inline(Inlining::Goes(Inline { id, of }, body)))
 }
@@ -65,7 +66,7 @@ pub fn go_on_with<'s>(
     ensures { OnOk result (turn.new ≡ after (page.go_with inline answer body.entry) turn.old) }
 {
     let mut body = body;
-    body.answer(turn.world.classes(), answer);
+    body.answer(answer);
     turn.stack.push(Frame::Inline(Inlining::Goes(inline, body)))
 }
 

@@ -4,7 +4,7 @@ use Rattle.std.proofs.Common.{None, is_some, option_map, bytes_eq, refl, sym, ap
 use Rattle.std.specs.Prelude.{⊤}
 use Rattle.std.proofs.lemmas.Bool.{and_parts, leb-true}
 use Rattle.std.proofs.lemmas.Slice.Eq.{bytes_eq-Decides}
-use Rattle.serde_json.specs.Data.{Data, unsigned, negative, float, null, boolean, number, string, array, object, Items}
+use Rattle.serde_json.specs.Data.{Data, unsigned, negative, float, null, boolean, number, string, array, Items}
 use Rattle.serde_json.specs.Data.{no_items, item, depth}
 use Rattle.serde_json.specs.Find.{at, get, get_item, as_array, as_bool, as_i64, as_str}
 use Rattle.dv_script.specs.declared.action.ListFlag.{ListFlag}

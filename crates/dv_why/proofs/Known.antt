@@ -21,9 +21,11 @@ use Rattle.dv_grammar.specs.Grammar.{IsNamedBody, names_body, IsPool, pools, IsS
 use Rattle.dv_grammar.proofs.Steps.{some_injective}
 use Rattle.dv_questions.specs.Questions.{Asked, words, names, classes, pools as pools_asked, is_known, is_pool}
 use Rattle.dv_questions.specs.Questions.{is_among, object_stands, stands, bodies as bodies_asked, is_body, has_body}
+use Rattle.dv_questions.specs.Questions.{has_object}
 use Rattle.dv_forms.specs.declared.versions.TheConstants.{BODIES_SINCE, COMMENTS_SINCE}
 use Rattle.dv_forms.specs.declared.want.Leaf.{Leaf}
 use Rattle.dv_forms.specs.declared.want.Leaf.TheVariants as leaf
+use Rattle.dv_forms.specs.declared.want.Object.TheVariants as object_of
 use Rattle.dv_reader.specs.Limits.{is_small}
 use Rattle.dv_reader.specs.Refusal.{answers, are_named, are_known, are_distinct, are_pooled, have_own_names}
 use Rattle.dv_reader.specs.Refusal.{have_bodies}
@@ -64,7 +66,13 @@ answered {a = a} d draft t g h =
 -- ---- names
 
 names_asked : (v w : ℕ) → v ≡ w → Tells (question.Names v) (names w)
-names_asked v w same = record { leaf = λ l x h. rw (← same) h; word = λ c x h. refl; object = λ k e h. refl }
+names_asked v w same =
+    record {
+      leaf = λ l x h. rw (← same) h;
+      word = λ c x h. refl;
+      object = λ k e h. refl;
+      body = λ x h. rw (← same) h;
+    }
 
 -- ---- classes
 
@@ -77,6 +85,7 @@ classes_asked (question.Classes given) d table of same =
       leaf = λ l x h. ap (λ t. is_known t l x) (sym (of ∙ same)) ∙ h;
       word = λ c x h. refl;
       object = λ k e h. refl;
+      body = λ x h. ap (λ t. is_known t (leaf.Found object_of.Body) x) (sym (of ∙ same)) ∙ h;
     }
 classes_asked (question.Pools ps) d table of same = absurd of
 classes_asked (question.Bodies bs) d table of same = absurd of
@@ -195,6 +204,7 @@ pools_tell (question.Pools ps) d draft of g = record {
       (among_declared d draft ps.now of g x) h;
   word = λ c x h. refl;
   object = λ k e h. refl;
+  body = λ x h. refl;
 }
 
 all_distinct : (d : Data) (draft : Draft) (b : Bool) → nat_eq (version_in d) 1 ≡ b → IsScript d draft → PoolsDistinct d
@@ -262,6 +272,7 @@ bodies_tell (question.Bodies bs) d draft of g = record {
       (body_declared d draft bs.now of g x) h;
   word = λ c x h. refl;
   object = λ k e h. refl;
+  body = λ x h. body_declared d draft bs.now of g x h;
 }
 
 all_own_names : (d : Data) (draft : Draft) (b : Bool) → nat_lt (version_in d) BODIES_SINCE ≡ b → IsScript d draft
@@ -327,7 +338,7 @@ leaf_stands : (v : ℕ) (l : Leaf) (x : List ℕ) → leaf_fits v l (string x) �
 leaf_stands v leaf.Comment x h = (and_parts (nat_le COMMENTS_SINCE v) true h).0
 leaf_stands v leaf.Text x h = refl
 leaf_stands v (leaf.New o) x h = refl
-leaf_stands v (leaf.Found o) x h = refl
+leaf_stands v (leaf.Found o) x h = (and_parts (has_object v o) true h).0
 leaf_stands v leaf.Integer x h = refl
 leaf_stands v (leaf.Number low high) x h = refl
 leaf_stands v leaf.Boolean x h = refl
@@ -337,9 +348,12 @@ leaf_stands v leaf.GatherFlag x h = refl
 
 -- an object that fits may stand in its version
 keyed_stands : (v : ℕ) (k : Keyed) (d : Data) → fits v (want.Keyed k) d ≡ true → object_stands v k ≡ true
-keyed_stands v k d h =
-    let p = and_parts (is_some (as_object d) && object_stands v k) (has_keys k d) h in
-    (and_parts (is_some (as_object d)) (object_stands v k) p.0).1
+keyed_stands v (keyed.Script version) d h = refl
+keyed_stands v keyed.Cooperator d h = refl
+keyed_stands v keyed.Body d h = refl
+keyed_stands v keyed.Failure d h =
+    let p = and_parts (is_some (as_object d) && object_stands v keyed.Failure) (has_keys keyed.Failure d) h in
+    (and_parts (is_some (as_object d)) (object_stands v keyed.Failure) p.0).1
 
 shape_asked : (v w : ℕ) → v ≡ w → Tells (question.Shape v) (words w)
 shape_asked v w same =
@@ -347,6 +361,7 @@ shape_asked v w same =
       leaf = λ l x h. rw (← same) (leaf_stands v l x h);
       word = λ c x h. rw (← same) h;
       object = λ k d h. rw (← same) (keyed_stands v k d h);
+      body = λ x h. rw (← same) h;
     }
 
 -- refused for its shape, a part is found that doesn't fit

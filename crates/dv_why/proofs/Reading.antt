@@ -16,7 +16,8 @@ use Rattle.dv_value.specs.declared.classes.Class.{Class}
 use Rattle.dv_script.specs.declared.body.End.{End}
 use Rattle.dv_script.specs.declared.body.End.TheVariants.{Return, Pass, Plus, Raise, Trap, Wait, Run, Throw}
 use Rattle.dv_script.specs.declared.body.Body.{Body}
-use Rattle.dv_script.specs.declared.body.Statement.{Statement, Do, Await, Try, End as Leave}
+use Rattle.dv_script.specs.declared.body.Statement.{Statement, Do, Await, Try, Finally}
+use Rattle.dv_script.specs.declared.body.Statement.{Raise as RaiseAgain, Caught, End as Leave}
 use Rattle.dv_script.specs.declared.work.Work.{Work}
 use Rattle.dv_script.specs.declared.work.Work.TheVariants as job_of
 use Rattle.dv_script.specs.declared.action.Action.{Action, Deferred, Callback, Errback, AddCallback, AddErrback}
@@ -51,8 +52,10 @@ use Rattle.dv_grammar.specs.Grammar.{cancel_call, reset_call, delay_call, loop, 
 use Rattle.dv_grammar.specs.Grammar.{pause_task, stop_task}
 use Rattle.dv_grammar.specs.Grammar.{resume_task, inline, thread, thread_in, units as units_rule, AreActions}
 use Rattle.dv_grammar.specs.Grammar.{no_actions, more_actions, IsDo}
-use Rattle.dv_grammar.specs.Grammar.{does_nothing, does, IsBody, body, AreBodies, no_bodies, more_bodies, IsStatement}
-use Rattle.dv_grammar.specs.Grammar.{performs, awaits, tries, leaves, AreStatements, no_statements, more_statements}
+use Rattle.dv_grammar.specs.Grammar.{does_nothing, does, IsBody, body, body_by_name, running, AreBodies, no_bodies}
+use Rattle.dv_grammar.specs.Grammar.{more_bodies, IsStatement}
+use Rattle.dv_grammar.specs.Grammar.{performs, awaits, tries, finishes, raises_again, takes_caught, leaves}
+use Rattle.dv_grammar.specs.Grammar.{AreStatements, no_statements, more_statements}
 use Rattle.dv_grammar.specs.Grammar.{IsEvent, acts, advances, drains, IsDeclaration, declares, IsPool, pools}
 use Rattle.dv_grammar.specs.Grammar.{IsCooperator, IsScript, IsBound, IsNamedBody, names_body}
 use Rattle.dv_grammar.proofs.WordsLemmas.{◌&◌}
@@ -246,7 +249,7 @@ other_ends v n table =
     rw (a.items, t.1) (Wait t.0, waits t.0)) &
     (λ ds h.
     let a = one_arg v n (want.Leaf (leaf.Found object.Body)) ds h in
-    let t = text_of a.a (fits_fine a.fine) in
+    let t = text_of a.a (and_parts (nat_le BODIES_SINCE v) (is_some (as_str a.a)) (fits_fine a.fine)).1 in
     rw (a.items, t.1) (Run t.0, runs t.0)) &
     tt
 
@@ -574,6 +577,7 @@ body_of v n table r (object ms) h =
     let xs = do_of v n table r (get_member (codes "do") ms) (λ e is. under (codes "do") h refl is) in
     let x = last_of v n table (get_member (codes "end") ms) (λ e is. under (codes "end") h refl is) in
     (record { actions = xs.0; end = x.0 }, body ms xs.0 x.0 (body_only v ms h.suit) xs.1 x.1)
+body_of v n table r (string x) h = (running x, body_by_name x)
 body_of v n table r d h = let fit : fits v a_body d ≡ true = fits_fine h in cc
 
 -- the arguments of a word read as those of a statement
@@ -602,6 +606,15 @@ statements v n table r =
     let ys = statements_of table p.items (λ k e is. r.of_statement e (p.each k e is)) in
     rw (a.items, o.whole, p.whole) (Try xs.0 c.0 ys.0, tries o.items a.b p.items xs.0 c.0 ys.0 xs.1 c.1 ys.1)) &
     (λ ds h.
+    let a = two_args v n (want.Array item_of.Statement) (want.Array item_of.Statement) ds h in
+    let o = open_array v n item_of.Statement a.a a.one in
+    let xs = statements_of table o.items (λ k e is. r.of_statement e (o.each k e is)) in
+    let p = open_array v n item_of.Statement a.b a.two in
+    let ys = statements_of table p.items (λ k e is. r.of_statement e (p.each k e is)) in
+    rw (a.items, o.whole, p.whole) (Finally xs.0 ys.0, finishes o.items p.items xs.0 ys.0 xs.1 ys.1)) &
+    (λ ds h. rw (no_args v n ds h) (RaiseAgain, raises_again)) &
+    (λ ds h. rw (no_args v n ds h) (Caught, takes_caught)) &
+    (λ ds h.
     let a = one_arg v n (want.Call call_of.Leaving) ds h in
     let x = leave_fine v n table a.a a.fine in
     rw (a.items) (Leave x.0, leaves a.a x.0 x.1 x.2)) &
@@ -618,6 +631,7 @@ statement_fine v n table r d h =
 
 no_body : (v : ℕ) (table : List Class) (d : Data) → IsFine v 0 a_body d → (b : Body) × IsBody table d b
 no_body v table (object ms) h = let deep : depth (object ms) ≤ 0 = h.deep in absurd (omega (arith, deep))
+no_body v table (string x) h = (running x, body_by_name x)
 no_body v table d h = let fit : fits v a_body d ≡ true = fits_fine h in cc
 
 no_statement : (v : ℕ) (table : List Class) (d : Data) → IsFine v 0 (want.Call call_of.Statement) d

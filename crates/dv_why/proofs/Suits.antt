@@ -1,6 +1,6 @@
 -- What answers a question of names badly.
 use Rattle.std.proofs.Common.{◌≡◌, ◌≢◌, ℕ, Bool, true, false, not, ◌||◌, List, Option, Some, None, is_some, refl, sym}
-use Rattle.std.proofs.Common.{ap, subst, ◌∙◌, codes, Result, Ok, Err}
+use Rattle.std.proofs.Common.{ap, subst, ◌∙◌, codes, Result, Ok, Err, inl, inr}
 use Rattle.std.specs.Prelude.{IfOk}
 use Rattle.serde_json.specs.Data.{Data, Items}
 use Rattle.serde_json.specs.Find.{as_str}
@@ -9,6 +9,7 @@ use Rattle.dv_value.specs.Classes.{find_class}
 use Rattle.dv_forms.specs.declared.want.Leaf.{Leaf}
 use Rattle.dv_forms.specs.declared.want.Leaf.TheVariants as leaf
 use Rattle.dv_forms.specs.declared.want.Object.TheVariants as object
+use Rattle.dv_forms.specs.declared.want.Keyed.TheVariants as keyed
 use Rattle.dv_forms.specs.declared.want.Want.{Want}
 use Rattle.dv_forms.specs.declared.want.Want.TheVariants as want
 use Rattle.dv_why.specs.declared.misfit.Misfit.{Misfit}
@@ -19,23 +20,32 @@ use Rattle.dv_why.specs.Documents.{list_in, name_in, version_in}
 use Rattle.dv_questions.specs.Questions.{is_body, is_class, is_pool}
 use Rattle.dv_why.specs.Fits.{is_declared, leaf_suits, name_suits, names_suit, suits}
 use Rattle.dv_why.specs.Wrong.{IsMisnamed, IsBadClass, unknown_class, IsBadPool, unknown_pool, IsBadBody, unknown_body}
+use Rattle.dv_why.specs.Wrong.{AsksFor, a_named_body}
+use Rattle.dv_forms.specs.Wants.{a_body}
 use Rattle.dv_why.proofs.GivenNames.{declared_none}
 
 -- a text stands where a leaf is asked for
 record IsBadText (q : Question) (w : Want) (d : Data) : Type 0 where
   leaf : Leaf
   name : List ℕ
-  asks : w ≡ want.Leaf leaf
+  asks : AsksFor leaf w
   text : as_str d ≡ Some name
   bad : name_suits q leaf name ≡ false
 
 bad_leaf : (q : Question) (l : Leaf) (d : Data) (o : Option (List ℕ)) → as_str d ≡ o → leaf_suits q l o ≡ false
     → IsBadText q (want.Leaf l) d
 bad_leaf q l d None is h = cc
-bad_leaf q l d (Some name) is h = record { leaf = l; name = name; asks = refl; text = is; bad = h }
+bad_leaf q l d (Some name) is h = record { leaf = l; name = name; asks = inl refl; text = is; bad = h }
+
+bad_body : (q : Question) (d : Data) (o : Option (List ℕ)) → as_str d ≡ o → leaf_suits q a_named_body o ≡ false
+    → IsBadText q a_body d
+bad_body q d None is h = cc
+bad_body q d (Some name) is h =
+    record { leaf = a_named_body; name = name; asks = inr (refl, refl); text = is; bad = h }
 
 bad_text : (q : Question) (w : Want) (d : Data) → names_suit q w d ≡ false → IsBadText q w d
 bad_text q (want.Leaf l) d h = bad_leaf q l d (as_str d) refl h
+bad_text q (want.Keyed keyed.Body) d h = bad_body q d (as_str d) refl h
 bad_text q _ d h = cc
 
 or_not : (a b : Bool) → (not a || b) ≡ false → (a ≡ true) × (b ≡ false)
@@ -57,6 +67,12 @@ pool_is _ h = cc
 body_is : (l : Leaf) → is_body l ≡ true → l ≡ leaf.Found object.Body
 body_is (leaf.Found object.Body) h = refl
 body_is _ h = cc
+
+-- a place that asks for another leaf than the name of a body asks for this
+asks_itself : (l k : Leaf) (w : Want) → AsksFor l w → l ≡ k → is_body k ≡ false → w ≡ want.Leaf k
+asks_itself l k w (inl asks) is other = asks ∙ ap (λ (x : Leaf). want.Leaf x) is
+asks_itself l k w (inr named) is other =
+    let body : is_body k ≡ true = ap is_body (sym is ∙ named.1) in cc
 
 -- a part that answers badly is a name that hasn't its form
 pub misnamed : (d : Data) (m : Misfit) → suits (question.Names (version_in d)) m.want (view m.found.now) ≡ false
@@ -83,7 +99,7 @@ misused_class (question.Bodies bodies) d m of h = absurd of
 misused_class (question.Classes classes) d m of bad =
     let b = bad_text (question.Classes classes) m.want (view m.found.now) bad in
     let c = or_not (is_class b.leaf) (is_some (find_class b.name classes.now)) b.bad in
-    unknown_class b.name (b.asks ∙ ap (λ (l : Leaf). want.Leaf l) (class_is b.leaf c.0)) b.text
+    unknown_class b.name (asks_itself b.leaf _ m.want b.asks (class_is b.leaf c.0) refl) b.text
     (ap (find_class b.name) (sym of) ∙ not_some (find_class b.name classes.now) c.1)
 
 -- the question asks for the pools of this document
@@ -106,7 +122,7 @@ misused_pool (question.Pools pools) d m of bad =
     let c = or_not (is_pool b.leaf) (is_declared pools.now b.name) b.bad in
     let none : (n : ℕ) → name_in n (list_in (codes "pools") d) ≢ Some b.name =
     subst (λ (ds : Items). (n : ℕ) → name_in n ds ≢ Some b.name) of (declared_none pools.now b.name c.1) in
-    unknown_pool b.name (b.asks ∙ ap (λ (l : Leaf). want.Leaf l) (pool_is b.leaf c.0)) b.text none
+    unknown_pool b.name (asks_itself b.leaf _ m.want b.asks (pool_is b.leaf c.0) refl) b.text none
 
 -- the question asks for the bodies of this document
 abbrev pub IsOfBodies : Data → Question → Type 0
@@ -128,7 +144,7 @@ misused_body (question.Bodies bodies) d m of bad =
     let c = or_not (is_body b.leaf) (is_declared bodies.now b.name) b.bad in
     let none : (n : ℕ) → name_in n (list_in (codes "bodies") d) ≢ Some b.name =
     subst (λ (ds : Items). (n : ℕ) → name_in n ds ≢ Some b.name) of (declared_none bodies.now b.name c.1) in
-    unknown_body b.name (b.asks ∙ ap (λ (l : Leaf). want.Leaf l) (body_is b.leaf c.0)) b.text none
+    unknown_body b.name (subst (λ (l : Leaf). AsksFor l m.want) (body_is b.leaf c.0) b.asks) b.text none
 
 -- what two clauses say of a result
 pub both_ok : {X E : Type 0} (r : Result X E) (P Q R : X → Type 0) → ((x : X) → P x → Q x → R x) → IfOk r P → IfOk r Q

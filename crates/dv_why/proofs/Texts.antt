@@ -7,14 +7,17 @@ use Rattle.dv_forms.specs.declared.want.Want.{Want}
 use Rattle.dv_forms.specs.declared.want.Want.TheVariants as want
 use Rattle.dv_forms.specs.declared.want.Leaf.{Leaf}
 use Rattle.dv_forms.specs.declared.want.Call.{Call}
+use Rattle.dv_forms.specs.declared.want.Leaf.TheVariants as leaf_of
+use Rattle.dv_forms.specs.declared.want.Object.TheVariants as object_of
 use Rattle.dv_forms.specs.declared.want.Keyed.{Keyed}
+use Rattle.dv_forms.specs.declared.want.Keyed.TheVariants as keyed
 use Rattle.dv_forms.specs.Parts.{call_at}
-use Rattle.dv_forms.specs.Wants.{item_want, key_want, keys_in, member_want, pair_wants}
+use Rattle.dv_forms.specs.Wants.{a_body, item_want, key_want, keys_in, member_want, pair_wants}
 use Rattle.dv_forms.specs.Words.{wants_of}
 use Rattle.dv_questions.specs.Questions.{Asked}
 use Rattle.dv_questions.specs.Asking.{count, if_there, each_item, each_member, one_for_one, arguments_suit, word_suits}
 use Rattle.dv_questions.specs.Asking.{call_suits}
-use Rattle.dv_questions.specs.Asking.{keys_suit, in_parts, all_suit}
+use Rattle.dv_questions.specs.Asking.{keys_suit, name_suits, in_parts, all_suit}
 use Rattle.dv_why.specs.declared.question.Question.{Question}
 use Rattle.dv_why.specs.Places.{nth}
 use Rattle.dv_why.specs.Fits.{suits}
@@ -26,6 +29,7 @@ pub record Tells (q : Question) (a : Asked) : Type 0 where
   pub leaf : (l : Leaf) (x : List ℕ) → suits q (want.Leaf l) (string x) ≡ true → a.of_leaf l x ≡ true
   pub word : (c : Call) (x : List ℕ) → suits q (want.Word c) (string x) ≡ true → a.of_word c x ≡ true
   pub object : (k : Keyed) (d : Data) → suits q (want.Keyed k) d ≡ true → a.of_object k ≡ true
+  pub body : (x : List ℕ) → suits q a_body (string x) ≡ true → a.of_leaf (leaf_of.Found object_of.Body) x ≡ true
 
 -- what each part answers well is good
 abbrev Goods : Question → (Want → Data → Bool) → Type 0
@@ -115,6 +119,22 @@ keys_good f k o d h (key ∷ keys) =
 array_is : {q : Question} {w : Want} {d e : Data} → d ≡ e → AllSuit q w d → AllSuit q w e
 array_is is h = rw is at h
 
+body_good : {q : Question} {a : Asked} → Tells q a → (o : Keyed) (x : List ℕ) → AllSuit q (want.Keyed o) (string x)
+    → name_suits a o x ≡ true
+body_good t (keyed.Script version) x h = refl
+body_good t keyed.Cooperator x h = refl
+body_good t keyed.Failure x h = refl
+body_good t keyed.Body x h = t.body x (here h)
+
+name_good : {q : Question} {a : Asked} → Tells q a → (o : Keyed) (d : Data) → AllSuit q (want.Keyed o) d
+    → if_there (name_suits a o) (as_str d) ≡ true
+name_good t o (string x) h = body_good t o x h
+name_good t o null h = refl
+name_good t o (boolean b) h = refl
+name_good t o (number n) h = refl
+name_good t o (array ds) h = refl
+name_good t o (object ms) h = refl
+
 all_good : {q : Question} {a : Asked} → Tells q a → (f : Want → Data → Bool) → Goods q f → (w : Want) (d : Data)
     → AllSuit q w d → in_parts a f w d ≡ true
 all_good t f k (want.Leaf l) d h = leaf_good t l d h
@@ -126,7 +146,8 @@ all_good {a = a} t f k (want.Call c) d h =
 all_good t f k (want.Pair p) d h =
     array_good (one_for_one f (pair_wants p)) d
     (λ ds is. ones_good f (pair_wants p) ds (λ n v e wants here. k v e (part n (array_is is h) wants here)))
-all_good t f k (want.Keyed o) d h = both (t.object o d (here h)) (keys_good f k o d h (keys_in o))
+all_good t f k (want.Keyed o) d h =
+    both (t.object o d (here h)) (both (name_good t o d h) (keys_good f k o d h (keys_in o)))
 all_good t f k (want.Array i) d h =
     array_good (each_item (f (item_want i))) d
     (λ ds is. each_good (f (item_want i)) ds (λ n e here. k (item_want i) e (part n (array_is is h) refl here)))

@@ -1,6 +1,6 @@
 -- A value of which each part fits reads, and so does a failure.
 use Rattle.std.proofs.Common.{Ordering, Less, Equal, Greater, is_eq, nat_cmp, ◌≡◌, ℕ, zero, suc, ◌≤◌, Bool, true, false}
-use Rattle.std.proofs.Common.{not, ◌&&◌, List, [], ◌∷◌, Option, Some, None, is_some, option_map, option_and_then}
+use Rattle.std.proofs.Common.{not, ◌&&◌, List, [], ◌∷◌, Option, Some, None, is_some, option_map}
 use Rattle.std.proofs.Common.{bytes_eq, refl, sym, ap, ◌∙◌, arith, codes}
 use Rattle.std.specs.List.{list_any}
 use Rattle.std.specs.Ordering.{match_ordering}
@@ -10,7 +10,7 @@ use Rattle.std.proofs.lemmas.Map.Text.{is_eq-slice_cmp}
 use Rattle.std.proofs.lemmas.Slice.Eq.{bytes_eq-Decides}
 use Rattle.serde_json.specs.Data.{Data, null, boolean, number, string, array, object, Items, no_items, item, Members}
 use Rattle.serde_json.specs.Data.{no_members, member, depth}
-use Rattle.serde_json.specs.Find.{as_i64, as_object, get, get_item, get_member}
+use Rattle.serde_json.specs.Find.{as_i64, get_item, get_member}
 use Rattle.dv_value.specs.declared.classes.Class.{Class}
 use Rattle.dv_value.specs.declared.failure.Failure.{Failure}
 use Rattle.dv_value.specs.declared.value.Value.{Value, Null, Bool as Flag, Int, Text, List as Values, Fault}

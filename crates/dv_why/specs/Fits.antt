@@ -11,9 +11,10 @@ use Rattle.serde_json.specs.declared.value.Value.{Value}
 use Rattle.dv_forms.specs.Forms.{is_first_error}
 use Rattle.dv_forms.specs.Parts.{empty_at, text_at, integer_at, number_at, bound_at, list_flag_at, gather_flag_at}
 use Rattle.dv_questions.specs.Asking.{count}
-use Rattle.dv_questions.specs.Questions.{is_body, is_known, is_named, is_pool, object_stands}
+use Rattle.dv_questions.specs.Questions.{has_object, is_body, is_known, is_named, is_pool, object_stands}
 use Rattle.dv_forms.specs.declared.want.Leaf.{Leaf}
 use Rattle.dv_forms.specs.declared.want.Leaf.TheVariants as leaf
+use Rattle.dv_forms.specs.declared.want.Object.TheVariants as of_object
 use Rattle.dv_forms.specs.declared.want.Call.{Call}
 use Rattle.dv_forms.specs.declared.want.Keyed.{Keyed}
 use Rattle.dv_forms.specs.declared.want.Keyed.TheVariants as keyed
@@ -23,13 +24,13 @@ use Rattle.dv_why.specs.declared.question.Question.{Question}
 use Rattle.dv_why.specs.declared.question.Question.TheVariants as question
 use Rattle.dv_forms.specs.Wants.{key_want}
 use Rattle.dv_forms.specs.Words.{may_stand, wants_of}
-use Rattle.dv_forms.specs.declared.versions.TheConstants.{COMMENTS_SINCE, LAST_VERSION}
+use Rattle.dv_forms.specs.declared.versions.TheConstants.{BODIES_SINCE, COMMENTS_SINCE, LAST_VERSION}
 
 -- a leaf reads as the grammar reads it in a script of this version
 abbrev pub leaf_fits : ℕ → Leaf → Data → Bool
 leaf_fits version leaf.Text d = is_some (text_at d)
 leaf_fits version (leaf.New o) d = is_some (text_at d)
-leaf_fits version (leaf.Found o) d = is_some (text_at d)
+leaf_fits version (leaf.Found o) d = has_object version o && is_some (text_at d)
 leaf_fits version leaf.Integer d = is_some (integer_at d)
 leaf_fits version (leaf.Number low high) d = is_some (number_at low high d)
 leaf_fits version leaf.Boolean d = is_some (as_bool d)
@@ -91,13 +92,21 @@ has_keys keyed.Body d = true
 has_keys keyed.Failure d =
     is_some (get (codes "fail") d) && is_some (get (codes "message") d) && is_of_class (is_first_error d) d
 
+-- an object of these keys, or a body by its name
+abbrev pub keyed_fits : ℕ → Keyed → Data → Bool
+keyed_fits version (keyed.Script v) d = is_some (as_object d) && has_keys (keyed.Script v) d
+keyed_fits version keyed.Cooperator d = is_some (as_object d) && has_keys keyed.Cooperator d
+keyed_fits version keyed.Failure d =
+    is_some (as_object d) && object_stands version keyed.Failure && has_keys keyed.Failure d
+keyed_fits version keyed.Body d = is_some (as_object d) || (is_some (as_str d) && nat_le BODIES_SINCE version)
+
 -- what stands at a place has the shape that the place asks for, its parts apart
 abbrev pub fits : ℕ → Want → Data → Bool
 fits version (want.Leaf leaf) d = leaf_fits version leaf d
 fits version want.Value d = value_fits d
 fits version (want.Call c) d = array_fits (parts_fit c) (as_array d)
 fits version (want.Pair p) d = array_fits are_two (as_array d)
-fits version (want.Keyed k) d = is_some (as_object d) && object_stands version k && has_keys k d
+fits version (want.Keyed k) d = keyed_fits version k d
 fits version (want.Array i) d = is_some (as_array d)
 fits version (want.Word c) d = word_fits version c (as_str d)
 fits version (want.Other k) d = false
@@ -145,13 +154,20 @@ abbrev pub leaf_suits : Question → Leaf → Option (List ℕ) → Bool
 leaf_suits q l None = true
 leaf_suits q l (Some name) = name_suits q l name
 
+-- whether a text at the place of an object is what is looked for: it may name a body
+abbrev pub body_name_suits : Question → Keyed → Option (List ℕ) → Bool
+body_name_suits q (keyed.Script version) name = true
+body_name_suits q keyed.Cooperator name = true
+body_name_suits q keyed.Failure name = true
+body_name_suits q keyed.Body name = leaf_suits q (leaf.Found of_object.Body) name
+
 -- whether what stands at a place is what is looked for, where the question is about names
 abbrev pub names_suit : Question → Want → Data → Bool
 names_suit q (want.Leaf l) d = leaf_suits q l (as_str d)
 names_suit q want.Value d = true
 names_suit q (want.Call c) d = true
 names_suit q (want.Pair p) d = true
-names_suit q (want.Keyed k) d = true
+names_suit q (want.Keyed k) d = body_name_suits q k (as_str d)
 names_suit q (want.Array i) d = true
 names_suit q (want.Word c) d = true
 names_suit q (want.Other k) d = true

@@ -1,5 +1,5 @@
 -- What is wrong at the place that is reported, refusal by refusal.
-use Rattle.std.specs.Prelude.{◌≡◌, ◌≢◌, ◌<◌, ℕ, false, List, [], ◌∷◌, ◌++◌, Some, None, codes, ⊤}
+use Rattle.std.specs.Prelude.{◌≡◌, ◌≢◌, ◌<◌, ◌⊎◌, ℕ, false, List, [], ◌∷◌, ◌++◌, Some, None, codes, ⊤}
 use Rattle.serde_json.specs.Data.{Data, Items}
 use Rattle.serde_json.specs.Find.{get, as_str}
 use Rattle.serde_json.specs.View.{view}
@@ -20,7 +20,7 @@ use Rattle.dv_forms.specs.declared.want.Want.{Want}
 use Rattle.dv_forms.specs.declared.want.Want.TheVariants as want
 use Rattle.dv_why.specs.declared.misfit.Misfit.{Misfit}
 use Rattle.dv_why.specs.Places.{Part, to_item, to_key, path_of, path_to}
-use Rattle.dv_forms.specs.Wants.{a_class, a_pool}
+use Rattle.dv_forms.specs.Wants.{a_body, a_class, a_pool}
 use Rattle.dv_why.specs.Documents.{version_in, list_in, name_in}
 use Rattle.dv_why.specs.Counts.{count_in, posts_of, ticks_in}
 use Rattle.dv_why.specs.Declaring.{table_before, table_in}
@@ -56,11 +56,19 @@ pub data IsTooMuch (d : Data) (m : Misfit) : Type 0 where
   -- of ticks that the events advance the clock by
   many_ticks : IsAt (to_key (codes "events") ∷ []) m → MOST_TICKS < ticks_in d → IsTooMuch d m
 
+-- the name of a body that is looked up
+abbrev pub a_named_body : Leaf
+a_named_body = leaf_of.Found object.Body
+
+-- the place asks for this leaf, or for a body, which may be given by its name
+abbrev pub AsksFor : Leaf → Want → Type 0
+AsksFor leaf w = (w ≡ want.Leaf leaf) ⊎ ((w ≡ a_body) × (leaf ≡ a_named_body))
+
 -- BadName: a text stands there, and it hasn't the form of a name that its place asks for in the document's version
 pub record IsMisnamed (d : Data) (m : Misfit) : Type 0 where
   pub name : List ℕ
   pub leaf : Leaf
-  pub asks : m.want ≡ want.Leaf leaf
+  pub asks : AsksFor leaf m.want
   pub found : HasText name m
   pub wrong : is_named (version_in d) leaf name ≡ false
 
@@ -96,14 +104,10 @@ pub data IsBadPool (d : Data) (m : Misfit) : Type 0 where
   unknown_pool : (name : List ℕ) → m.want ≡ a_pool → HasText name m
       → ((n : ℕ) → name_in n (list_in (codes "pools") d) ≢ Some name) → IsBadPool d m
 
--- the name of a body that is looked up
-abbrev pub a_named_body : Want
-a_named_body = want.Leaf (leaf_of.Found object.Body)
-
 -- BadBody: a body has the name of one before it, or a body is used by a name that none has
 pub data IsBadBody (d : Data) (m : Misfit) : Type 0 where
   named_twice : IsGivenTwice (list_in (codes "bodies") d) (to_key (codes "bodies") ∷ []) m → IsBadBody d m
-  unknown_body : (name : List ℕ) → m.want ≡ a_named_body → HasText name m
+  unknown_body : (name : List ℕ) → AsksFor a_named_body m.want → HasText name m
       → ((n : ℕ) → name_in n (list_in (codes "bodies") d) ≢ Some name) → IsBadBody d m
 
 -- what is wrong where a script is refused so

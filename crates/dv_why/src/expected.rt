@@ -9,6 +9,9 @@ use dv_forms::words::{
 use serde_json::Value as Json;
 use std::alloc::AllocError;
 
+/// The first version whose inline bodies have the statements finally, raise and caught.
+const FINALLY_SINCE: u32 = 3;
+
 /// How the forms of a word are shown: most have one, and some two.
 #[derive(Clone, Copy, Drop)]
 pub struct Shown {
@@ -135,12 +138,19 @@ fn leaving_text(version: u32) -> &'static str {
     }
 }
 
+fn statement_text(version: u32) -> &'static str {
+    if version < FINALLY_SINCE {
+        "a statement: an array of one of the words do, await, try and end, and its arguments"
+    } else {
+        "a statement: an array of one of the words do, await, try, finally, raise, caught and end, and its arguments"
+    }
+}
+
 fn call_text(version: u32, call: Call) -> &'static str {
     match call {
         Call::Event => "an event: an array of a word and its arguments",
         Call::Action => "an action: an array of a word and its arguments",
-        Call::Statement =>
-            "a statement: an array of one of the words do, await, try and end, and its arguments",
+        Call::Statement => statement_text(version),
         Call::End => end_text(version),
         Call::Leaving => leaving_text(version),
         Call::Work =>
@@ -164,11 +174,19 @@ fn leaving_word_text(version: u32) -> &'static str {
     }
 }
 
+fn statement_word_text(version: u32) -> &'static str {
+    if version < FINALLY_SINCE {
+        "the word of a statement: do, await, try or end; finally, raise and caught from version 3 on"
+    } else {
+        "the word of a statement: do, await, try, finally, raise, caught or end"
+    }
+}
+
 fn word_text(version: u32, call: Call) -> &'static str {
     match call {
         Call::Event => "the word of an action, advance or drain",
         Call::Action => "the word of an action",
-        Call::Statement => "the word of a statement: do, await, try or end",
+        Call::Statement => statement_word_text(version),
         Call::End => end_word_text(version),
         Call::Leaving => leaving_word_text(version),
         Call::Work => "the word of a work: value, raise or sum",
@@ -191,11 +209,19 @@ fn failure_text(version: u32) -> &'static str {
     }
 }
 
+fn body_text(version: u32) -> &'static str {
+    if version < BODIES_SINCE {
+        "a body: an object of the keys do and end, each of which may be left out"
+    } else {
+        "a body: an object of the keys do and end, each of which may be left out, or the name of a body that the key `bodies` declares"
+    }
+}
+
 fn keyed_text(version: u32, keyed: Keyed) -> &'static str {
     match keyed {
         Keyed::Script(_) => "a script: an object",
         Keyed::Cooperator => "a cooperator: an object of the keys units and delay",
-        Keyed::Body => "a body: an object of the keys do and end, each of which may be left out",
+        Keyed::Body => body_text(version),
         Keyed::Failure => failure_text(version),
     }
 }
@@ -367,6 +393,35 @@ fn forms_in(call: Call, json: &Json) -> Option<Shown> {
     }
 }
 
+/// What is expected at the place of an object where a text stands: the name of a body, where a
+/// script of this version has some.
+fn text_expected(version: u32, keyed: Keyed) -> Expected {
+    match keyed {
+        Keyed::Body => if version < BODIES_SINCE {
+            Expected::Wanted(version, Want::Keyed(keyed))
+        } else {
+            Expected::Wanted(version, Want::Leaf(Leaf::Found(Object::Body)))
+        },
+        Keyed::Script(_) | Keyed::Cooperator | Keyed::Failure => {
+            Expected::Wanted(version, Want::Keyed(keyed))
+        }
+    }
+}
+
+/// What is expected at the place of an object where this stands.
+fn keyed_expected(version: u32, keyed: Keyed, found: &Json) -> Expected {
+    match found {
+        Json::Object(_) => match missing_key(keyed, found) {
+            Some(key) => Expected::Key(key),
+            None => Expected::Wanted(version, Want::Keyed(keyed)),
+        },
+        Json::String(_) => text_expected(version, keyed),
+        Json::Null | Json::Bool(_) | Json::Number(_) | Json::Array(_) => {
+            Expected::Wanted(version, Want::Keyed(keyed))
+        }
+    }
+}
+
 /// The key that an object has to have and hasn't. What a failure lacks, its form shows.
 fn missing_key(keyed: Keyed, json: &Json) -> Option<&'static str> {
     let keys: &'static [&'static str] = match keyed {
@@ -391,10 +446,7 @@ impl Expected {
                 Some(shown) => Expected::Form(shown),
                 None => Expected::Wanted(version, want),
             },
-            Want::Keyed(keyed) => match (found, missing_key(keyed, found)) {
-                (Json::Object(_), Some(key)) => Expected::Key(key),
-                (_, Some(_) | None) => Expected::Wanted(version, want),
-            },
+            Want::Keyed(keyed) => keyed_expected(version, keyed, found),
             Want::Leaf(_)
             | Want::Value
             | Want::Pair(_)

@@ -4,11 +4,11 @@ ghost use Rattle.std.specs.Prelude.{◌≡◌, option_map};
 ghost use Rattle.serde_json.specs.View.{view, items_view};
 ghost use Rattle.serde_json.specs.Find.{as_str, as_array};
 ghost use Rattle.dv_why.specs.Fits.{value_fits, begins_well, parts_fit, array_fits, are_two};
-ghost use Rattle.dv_why.specs.Fits.{word_fits, is_empty, is_of_class, has_keys, fits};
+ghost use Rattle.dv_why.specs.Fits.{word_fits, is_empty, is_of_class, has_keys, keyed_fits, fits};
 
 use crate::leaf::leaf_fits;
 use dv_forms::failure::is_first_error;
-use dv_forms::versions::LAST_VERSION;
+use dv_forms::versions::{BODIES_SINCE, LAST_VERSION};
 use dv_forms::want::{Call, Keyed, Want};
 use dv_forms::words::{may_stand, wants_of};
 use dv_questions::question::object_stands;
@@ -118,6 +118,23 @@ fn has_keys(keyed: Keyed, json: &Json) -> bool
     }
 }
 
+/// Whether it is an object of these keys, or a body by its name.
+fn keyed_fits(version: u32, keyed: Keyed, json: &Json) -> bool
+    ensures { result ≡ keyed_fits version keyed (view json.now) }
+{
+    match keyed {
+        Keyed::Script(_) | Keyed::Cooperator => {
+            json.as_object().is_some() && has_keys(keyed, json)
+        }
+        Keyed::Failure => {
+            json.as_object().is_some() && object_stands(version, keyed) && has_keys(keyed, json)
+        }
+        Keyed::Body => {
+            json.as_object().is_some() || (json.as_str().is_some() && BODIES_SINCE <= version)
+        }
+    }
+}
+
 /// Whether what stands at a place has the shape that the place asks for in a script of this
 /// version, its parts apart.
 pub fn fits(version: u32, want: Want, json: &Json) -> bool
@@ -128,9 +145,7 @@ pub fn fits(version: u32, want: Want, json: &Json) -> bool
         Want::Value => value_fits(json),
         Want::Call(call) => call_fits(call, json),
         Want::Pair(_) => is_pair(json),
-        Want::Keyed(keyed) => {
-            json.as_object().is_some() && object_stands(version, keyed) && has_keys(keyed, json)
-        }
+        Want::Keyed(keyed) => keyed_fits(version, keyed, json),
         Want::Array(_) => json.as_array().is_some(),
         Want::Word(call) => word_fits(version, call, json),
         Want::Other(_) => false,

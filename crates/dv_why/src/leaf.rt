@@ -7,6 +7,7 @@ ghost use Rattle.dv_why.specs.Fits.{leaf_fits};
 
 use dv_forms::versions::COMMENTS_SINCE;
 use dv_forms::want::Leaf;
+use dv_questions::question::has_object;
 use dv_script::limits::MOST_PLACES;
 use serde_json::Value as Json;
 
@@ -54,7 +55,8 @@ pub fn leaf_fits(version: u32, leaf: Leaf, json: &Json) -> bool
     ensures { result ≡ leaf_fits version leaf (view json.now) }
 {
     match leaf {
-        Leaf::Text | Leaf::New(_) | Leaf::Found(_) => json.as_str().is_some(),
+        Leaf::Text | Leaf::New(_) => json.as_str().is_some(),
+        Leaf::Found(object) => has_object(version, object) && json.as_str().is_some(),
         Leaf::Integer => json.as_i64().is_some(),
         Leaf::Number(low, high) => is_number(json, low, high),
         Leaf::Boolean => json.as_bool().is_some(),

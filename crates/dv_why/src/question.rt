@@ -1,11 +1,11 @@
 ghost use Rattle.std.specs.Prelude.{◌≡◌, option_and_then};
 ghost use Rattle.serde_json.specs.View.{view};
 ghost use Rattle.serde_json.specs.Find.{as_str, at};
-ghost use Rattle.dv_why.specs.Fits.{has_name, is_declared, name_suits, leaf_suits, names_suit};
-ghost use Rattle.dv_why.specs.Fits.{suits};
+ghost use Rattle.dv_why.specs.Fits.{has_name, is_declared, name_suits, leaf_suits};
+ghost use Rattle.dv_why.specs.Fits.{body_name_suits, names_suit, suits};
 
 use crate::fits::fits;
-use dv_forms::want::{Leaf, Want};
+use dv_forms::want::{Keyed, Leaf, Object, Want};
 use dv_questions::question::{is_body, is_known, is_named, is_pool};
 use dv_value::classes::Classes;
 use serde_json::Value as Json;
@@ -65,15 +65,24 @@ fn leaf_suits(question: Question<'_>, leaf: Leaf, json: &Json) -> bool
     }
 }
 
+fn body_name_suits(question: Question<'_>, keyed: Keyed, json: &Json) -> bool
+    ensures { result ≡ body_name_suits question.entry keyed (as_str (view json.now)) }
+{
+    match keyed {
+        Keyed::Script(_) | Keyed::Cooperator | Keyed::Failure => true,
+        Keyed::Body => leaf_suits(question, Leaf::Found(Object::Body), json),
+    }
+}
+
 fn names_suit(question: Question<'_>, want: Want, json: &Json) -> bool
     ensures { result ≡ names_suit question.entry want (view json.now) }
 {
     match want {
         Want::Leaf(leaf) => leaf_suits(question, leaf, json),
+        Want::Keyed(keyed) => body_name_suits(question, keyed, json),
         Want::Value
         | Want::Call(_)
         | Want::Pair(_)
-        | Want::Keyed(_)
         | Want::Array(_)
         | Want::Word(_)
         | Want::Other(_) => true,

@@ -3,7 +3,7 @@
 from __future__ import annotations
 
 import enum
-from typing import Any, Dict, FrozenSet, List, Tuple
+from typing import Any, Dict, FrozenSet, List, Tuple, Union
 
 from ..language import LANGUAGE, Form, Word
 
@@ -137,6 +137,9 @@ FOUND: FrozenSet[Kind] = frozenset(
 
 Arguments = Tuple[Kind, ...]
 
+#: a body: an object, or the name of one that the script declares
+Body = Union[Dict[str, Any], str]
+
 #: the kinds of what isn't a number, a name, an array or flags
 _PLAIN: Dict[str, Kind] = {
     "text": Kind.TEXT,
@@ -201,6 +204,8 @@ ENDS = _table("end")
 #: how an inline body may end
 INLINE_ENDS = _table("leaving")
 STATEMENTS = _table("statement")
+#: the first version that has a statement
+STATEMENTS_SINCE: Dict[str, int] = {row.word: row.since for row in LANGUAGE.at("statement")}
 WORKS = _table("work")
 
 #: the levels that a port can begin with, in order; each has the actions of those before it

@@ -247,7 +247,9 @@ class Scripts:
             return {"fail": "FirstError", "index": index, "message": "", "sub": self._failure()}
         return {"fail": self._random.choice(_CLASSES), "message": self._random.choice(_TEXTS)}
 
-    def _body(self, depth: int) -> Dict[str, Any]:
+    def _body(self, depth: int) -> grammar.Body:
+        if self._named and self._one_in(6):
+            return self._random.choice(self._named)
         body: Dict[str, Any] = {}
         if not self._one_in(3):
             body["do"] = [self._action(depth + 1) for _ in range(self._random.randint(0, 3))]
@@ -255,7 +257,7 @@ class Scripts:
             body["end"] = self._end(grammar.ENDS, depth + 1)
         return self._commented(body)
 
-    def _bodies(self, depth: int) -> List[Dict[str, Any]]:
+    def _bodies(self, depth: int) -> List[grammar.Body]:
         return [self._body(depth) for _ in range(self._random.randint(0, 4))]
 
     def _end(self, table: Dict[str, List[grammar.Arguments]], depth: int) -> List[Any]:
@@ -272,11 +274,17 @@ class Scripts:
 
     def _statement(self, depth: int) -> List[Any]:
         words: List[str] = ["do", "await", "await", "end"]
+        if self._is_third:
+            words += ["raise", "caught"]
         if depth <= _DEEPEST:
-            words.append("try")
+            words += ["try", "finally", "finally"] if self._is_third else ["try"]
         word: Optional[str] = self._random.choice(words)
         assert word is not None
-        return [word, *self._arguments(grammar.STATEMENTS[word], depth)]
+        statement = [word, *self._arguments(grammar.STATEMENTS[word], depth)]
+        if self._is_third and word in ("try", "finally") and self._one_in(3):
+            # only a result shows what was caught
+            statement[-1] = [["caught"], ["end", ["pass"]]]
+        return statement
 
 
 def _holds_bodies(word: str) -> bool:

@@ -162,12 +162,34 @@ class Steps:
         return self._perform(next(self._bodies), None, None)
 
 
-class _Left(Exception):
-    """An inline body was left by an `end`."""
+class _Leaving:
+    """An inline body is left by an `end`, on what was the present value there."""
 
-    def __init__(self, end: List[Any]) -> None:
-        super().__init__()
+    def __init__(self, end: List[Any], present: object) -> None:
         self.end = end
+        self.present = present
+
+
+class _Left(Exception):
+    """An `end` in the second statements of a `finally`, which takes the place of how the first ended."""
+
+    def __init__(self, leaving: _Leaving) -> None:
+        super().__init__()
+        self.leaving = leaving
+
+
+class _Inline:
+    """What the statements of an inline body share."""
+
+    def __init__(self, deferred: Deferred[Any]) -> None:
+        self.deferred = deferred
+        self.present: object = None
+        #: the exceptions that an `except` or a `finally` of the body handles, the innermost last
+        self.handled: List[BaseException] = []
+
+
+#: statements of an inline body that run: they end past the last one, or leave the body
+_Running = Generator[Deferred[Any], Any, Optional[_Leaving]]
 
 
 class Player:
@@ -276,11 +298,13 @@ class Player:
 
     def _body(
         self,
-        body: Dict[str, Any],
+        body: grammar.Body,
         given: object = None,
         here: Optional[Deferred[Any]] = None,
     ) -> Any:
         """Performs a body on what it is given."""
+        if isinstance(body, str):
+            return self._run_body(body, given, here)
         for action in body.get("do", ()):
             self._action(action, here)
         return self._end(body.get("end", ("pass",)), given, here)
@@ -567,44 +591,82 @@ class Player:
         self, statements: List[Any], mine: List[Deferred[Any]]
     ) -> Generator[Deferred[Any], Any, Any]:
         """The generator of an inline body; what its END gives is made outside of all its tries."""
-        present: List[object] = [None]
-        end: Optional[List[Any]] = None
-        try:
-            yield from self._statements(statements, mine, present)
-        except _Left as left:
-            end = left.end
-        return None if end is None else self._end(end, present[0], mine[0])
+        body = _Inline(mine[0])
+        leaving = yield from self._statements(statements, body)
+        return None if leaving is None else self._end(leaving.end, leaving.present, body.deferred)
 
-    def _statements(
-        self, statements: List[Any], mine: List[Deferred[Any]], present: List[object]
-    ) -> Generator[Deferred[Any], Any, None]:
+    def _statements(self, statements: List[Any], body: _Inline) -> _Running:
         for statement in statements:
             word = statement[0]
+            leaving: Optional[_Leaving] = None
             if word == "do":
-                self._action(statement[1], mine[0])
+                self._action(statement[1], body.deferred)
             elif word == "await":
-                present[0] = yield self._deferred(statement[1], mine[0])
+                body.present = yield self._deferred(statement[1], body.deferred)
                 self._go_on()
             elif word == "try":
-                yield from self._try(statement, mine, present)
+                leaving = yield from self._try(statement, body)
+            elif word == "finally":
+                leaving = yield from self._finally(statement, body)
+            elif word == "raise":
+                self._need_active(body)
+                raise
+            elif word == "caught":
+                self._need_active(body)
+                body.present = [_Failure(sys.exc_info()[1])]
             else:
-                raise _Left(statement[1])
+                return _Leaving(statement[1], body.present)
+            if leaving is not None:
+                return leaving
+        return None
 
-    def _try(
-        self, statement: List[Any], mine: List[Deferred[Any]], present: List[object]
-    ) -> Generator[Deferred[Any], Any, None]:
+    def _need_active(self, body: _Inline) -> None:
+        """Raises RuntimeError where the body handles no exception. Python would take one that a caller handles."""
+        if not body.handled:
+            raise self.teller.classes.make("RuntimeError", "no active exception")
+
+    def _try(self, statement: List[Any], body: _Inline) -> _Running:
         classes = tuple(self.teller.classes.get(name) for name in statement[2])
-        caught = False
         try:
-            yield from self._statements(statement[1], mine, present)
-        except _Left:
+            return (yield from self._statements(statement[1], body))
+        except classes as error:  # type: ignore[misc]
+            return (yield from self._second(statement[3], body, error))
+
+    def _second(
+        self, statements: List[Any], body: _Inline, error: Optional[BaseException]
+    ) -> _Running:
+        """The second statements of a `try` or a `finally`, while this error is handled, if there is one."""
+        self._go_on()
+        body.present = None
+        if error is None:
+            return (yield from self._statements(statements, body))
+        body.handled.append(error)
+        try:
+            return (yield from self._statements(statements, body))
+        finally:
+            body.handled.pop()
+
+    def _finally(self, statement: List[Any], body: _Inline) -> _Running:
+        try:
+            return (yield from self._in_finally(statement, body))
+        except _Left as left:
+            return left.leaving
+
+    def _in_finally(self, statement: List[Any], body: _Inline) -> _Running:
+        thrown: Optional[BaseException] = None
+        try:
+            return (yield from self._statements(statement[1], body))
+        except BaseException as error:
+            thrown = error
             raise
-        except classes:  # type: ignore[misc]
-            caught = True
-        if caught:
-            self._go_on()
-            present[0] = None
-            yield from self._statements(statement[3], mine, present)
+        finally:
+            # the second statements run in no generator that is closed, and in no run that has stopped
+            if not isinstance(thrown, (GeneratorExit, Stopped)):
+                present = body.present
+                leaving = yield from self._second(statement[2], body, thrown)
+                if leaving is not None:
+                    raise _Left(leaving)
+                body.present = present
 
     # threads
 

@@ -18,6 +18,9 @@ _NAME = re.compile(rf"[A-Za-z0-9_][A-Za-z0-9_]{{0,{_REST}}}", re.ASCII)
 #: the form of names from the version on that has marks in them
 _MARKED_NAME = re.compile(rf"[A-Za-z0-9_][A-Za-z0-9_.:-]{{0,{_REST}}}", re.ASCII)
 
+#: the first versions of words that every version has
+_ALWAYS: Mapping[str, int] = {}
+
 #: a refusal: its number and its name
 Reason = Tuple[int, str]
 
@@ -60,8 +63,8 @@ class Script:
         self.delay: int = cooperator["delay"]
         #: the names of the pools; no line shows how many workers one has
         self.pools: List[str] = [name for name, _ in root.get("pools", [])]
-        self.bodies: Dict[str, Dict[str, Any]] = dict(root.get("bodies", []))
-        self.callers: List[List[Dict[str, Any]]] = root.get("callers", [])
+        self.bodies: Dict[str, grammar.Body] = dict(root.get("bodies", []))
+        self.callers: List[List[grammar.Body]] = root.get("callers", [])
 
 
 def read(data: bytes, names_of_classes: Sequence[str]) -> Script:
@@ -235,12 +238,14 @@ class _Shape:
             self._number(event[1], grammar.ADVANCES if word == "advance" else grammar.DRAINS)
             self.found.advanced += event[1] if word == "advance" else 0
         else:
-            self._said(event, grammar.ACTIONS)
+            self._said(event, grammar.ACTIONS, grammar.SINCE)
 
-    def _said(self, said: Any, table: Dict[str, List[grammar.Arguments]]) -> None:
-        """An array of a word of the table and what it takes."""
+    def _said(
+        self, said: Any, table: Dict[str, List[grammar.Arguments]], since: Mapping[str, int] = _ALWAYS
+    ) -> None:
+        """An array of a word of the table, which a version may be the first to have, and what it takes."""
         word = self._word(said)
-        if grammar.SINCE.get(word, self._version) > self._version:
+        if since.get(word, self._version) > self._version:
             self._refuse(said)
         for arguments in table.get(word, []):
             if len(arguments) == len(said) - 1:
@@ -275,7 +280,7 @@ class _Shape:
             self._bodies(value)
         elif kind is Kind.STATEMENTS:
             for statement in self._array(value):
-                self._said(statement, grammar.STATEMENTS)
+                self._said(statement, grammar.STATEMENTS, grammar.STATEMENTS_SINCE)
         elif kind is Kind.PLACES:
             for place in self._array(value):
                 self._number(place, grammar.PLACES)
@@ -292,7 +297,7 @@ class _Shape:
             if value is not None:
                 self._number(value, grammar.BOUNDS)
         elif kind is Kind.ACTION:
-            self._said(value, grammar.ACTIONS)
+            self._said(value, grammar.ACTIONS, grammar.SINCE)
         elif kind is Kind.END:
             self._said(value, grammar.INLINE_ENDS)
         elif kind is Kind.WORK:
@@ -305,9 +310,13 @@ class _Shape:
             self._body(body)
 
     def _body(self, body: Any) -> None:
+        if isinstance(body, str) and grammar.SINCE["run"] <= self._version:
+            self.found.names.append(body)
+            self.found.bodies.append(body)
+            return
         self._keys(body, set(), {"do", "end"} | self._comment)
         for action in self._array(body.get("do", [])):
-            self._said(action, grammar.ACTIONS)
+            self._said(action, grammar.ACTIONS, grammar.SINCE)
         if "end" in body:
             self._said(body["end"], grammar.ENDS)
 

@@ -1,8 +1,10 @@
-ghost use Rattle.std.specs.Prelude.{[], option_map};
+ghost use Rattle.std.specs.Prelude.{[], None, Some, option_map};
+ghost use Rattle.serde_json.specs.Find.{as_str};
 ghost use Rattle.serde_json.specs.View.{view, items_view};
 ghost use Rattle.dv_forms.specs.Answer.{Reads};
 ghost use Rattle.dv_forms.specs.Parts.{each, list_at, field};
-ghost use Rattle.dv_grammar.specs.Shape.{action_at, body_at, end_at};
+ghost use Rattle.dv_grammar.specs.Grammar.{running};
+ghost use Rattle.dv_grammar.specs.Shape.{action_at, body_at, by_name_or, end_at, keyed_body_by};
 ghost use Rattle.dv_script.specs.declared.body.End.TheVariants.{Pass};
 
 use crate::reading::action::actions;
@@ -13,22 +15,56 @@ use dv_script::action::Action;
 use dv_script::body::{Body, End};
 use dv_value::classes::Classes;
 use dv_value::items::Items;
+use dv_value::text::Text;
 use serde_json::Value as Json;
 use std::alloc::Global;
 
-/// A body, in which bodies and statements nest to `levels`, itself among them.
+/// A body, in which bodies and statements nest to `levels`, itself among them: a name nests none.
 #[cycle(shape)]
 #[tactic(auto, unfolding(crate::specs::Shape::readers, crate::specs::Shape::body_by))]
 pub fn body(alloc: Global, classes: &Classes, levels: u32, json: &Json) -> Result<Body, Stop>
     ensures { Reads result (body_at classes.now levels (view json.now)) }
 {
     if levels == 0 {
-        return Err(Stop::BadShape);
+        return name_alone(alloc, json);
     }
+    match json.as_str() {
+        Some(name) => by_name(alloc, name),
+        None => keyed_body(alloc, classes, levels - 1, json),
+    }
+}
+
+/// An object that is a body, in which bodies and statements nest to `levels`.
+#[cycle(shape)]
+#[tactic(auto, unfolding(crate::specs::Shape::keyed_body_by))]
+fn keyed_body(alloc: Global, classes: &Classes, levels: u32, json: &Json) -> Result<Body, Stop>
+    ensures { Reads result (keyed_body_by classes.now (action_at classes.now levels)
+        (view json.now)) }
+{
     fields(json, &["do", "end"])?;
-    let actions = performed(alloc, classes, levels - 1, json.get("do"))?;
+    let actions = performed(alloc, classes, levels, json.get("do"))?;
     let end = last(alloc, classes, json.get("end"))?;
     Ok(Body { actions, end })
+}
+
+/// A body by its name, and nothing else.
+fn name_alone(alloc: Global, json: &Json) -> Result<Body, Stop>
+    ensures { Reads result (by_name_or (as_str (view json.now)) None) }
+{
+    match json.as_str() {
+        Some(name) => by_name(alloc, name),
+        None => Err(Stop::BadShape),
+    }
+}
+
+/// A body that has the one of this name run in its place.
+fn by_name(alloc: Global, name: &str) -> Result<Body, Stop>
+    ensures { Reads result (Some (running name.now)) }
+{
+    Ok(Body {
+        actions: Items::new(alloc),
+        end: End::Run(Text::of(alloc, name)?),
+    })
 }
 
 /// The items of an array of bodies.

@@ -1,12 +1,12 @@
 ghost use Rattle.serde_json.specs.View.{view, items_view};
 ghost use Rattle.dv_forms.specs.Answer.{Reads};
-ghost use Rattle.dv_forms.specs.Parts.{class_at, list_at, triple, each};
+ghost use Rattle.dv_forms.specs.Parts.{class_at, list_at, pair, triple, each};
 ghost use Rattle.dv_grammar.specs.Shape.{action_at, statement_at, statement_of};
 
 use crate::reading::action::action;
 use crate::reading::end::leave;
 use dv_forms::arguments::one_text;
-use dv_forms::leaf::{array, call, classes_in, one, three};
+use dv_forms::leaf::{array, call, classes_in, none, one, three, two};
 use dv_forms::stop::Stop;
 use dv_forms::words::StatementWord;
 use dv_script::body::Statement;
@@ -56,6 +56,18 @@ fn statement_of(
             let (body, listed, handler) = tried(alloc, classes, levels, arguments)?;
             Ok(Statement::Try(body, listed, handler))
         }
+        StatementWord::Finally => {
+            let (body, last) = finished(alloc, classes, levels, arguments)?;
+            Ok(Statement::Finally(body, last))
+        }
+        StatementWord::Raise => {
+            none(arguments)?;
+            Ok(Statement::Raise)
+        }
+        StatementWord::Caught => {
+            none(arguments)?;
+            Ok(Statement::Caught)
+        }
         StatementWord::End => Ok(Statement::End(leave(alloc, classes, one(arguments)?)?)),
     }
 }
@@ -78,6 +90,24 @@ fn tried(
     let listed = classes_in(alloc, classes, names)?;
     let handler = statements(alloc, classes, levels, array(handler)?)?;
     Ok((body, listed, handler))
+}
+
+/// What runs first, and what runs then, however the first ends.
+#[cycle(shape)]
+#[tactic(auto, unfolding(dv_forms::specs::Parts::pair))]
+fn finished(
+    alloc: Global,
+    classes: &Classes,
+    levels: u32,
+    arguments: &[Json],
+) -> Result<(Items<Statement>, Items<Statement>), Stop>
+    ensures { Reads result (pair (list_at (statement_at classes.now levels))
+        (list_at (statement_at classes.now levels)) (items_view arguments.now)) }
+{
+    let (body, last) = two(arguments)?;
+    let body = statements(alloc, classes, levels, array(body)?)?;
+    let last = statements(alloc, classes, levels, array(last)?)?;
+    Ok((body, last))
 }
 
 /// The items of an array of statements.

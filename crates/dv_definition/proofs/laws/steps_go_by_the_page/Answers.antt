@@ -1,5 +1,5 @@
 use Rattle.std.proofs.Common.{refl}
-use Rattle.dv_definition.proofs.ConditionsHold.{calls_come, cancels_reach, failures_thrown, lists_fire}
+use Rattle.dv_definition.proofs.ConditionsHold.{calls_come, cancels_reach, ends_leave, failures_thrown, lists_fire}
 use Rattle.dv_definition.proofs.laws.steps_go_by_the_page.Goals as goal
 
 pub returns-clause-used : goal.returns-clause-used
@@ -25,3 +25,6 @@ returns-clause-stepped c = λ t. refl
 
 pub returns-clause-thrown : goal.returns-clause-thrown
 returns-clause-thrown c = failures_thrown
+
+pub returns-clause-left : goal.returns-clause-left
+returns-clause-left c = ends_leave

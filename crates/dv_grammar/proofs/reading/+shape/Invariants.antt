@@ -44,8 +44,14 @@ decreases-body::bodies l = 16 * l.levels + 1
 abbrev pub decreases-body::body : goal.decreases-body::body
 decreases-body::body l = 16 * l.levels
 
+abbrev pub decreases-body::keyed_body : goal.decreases-body::keyed_body
+decreases-body::keyed_body l = 16 * l.levels + 8
+
 abbrev pub decreases-body::performed : goal.decreases-body::performed
 decreases-body::performed l = 16 * l.levels + 7
+
+abbrev pub decreases-statement::finished : goal.decreases-statement::finished
+decreases-statement::finished l = 16 * l.levels + 2
 
 abbrev pub decreases-statement::statement : goal.decreases-statement::statement
 decreases-statement::statement l = 16 * l.levels
