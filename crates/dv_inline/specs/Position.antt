@@ -3,7 +3,6 @@ use Rattle.std.specs.Prelude.{ℕ, zero, suc, ◌+◌, ◌≡◌, Bool, true, fa
 use Rattle.std.specs.Prelude.{Result, Ok, Err}
 use Rattle.std.specs.declared.alloc.AllocError.{AllocError}
 use Rattle.dv_inline.specs.Meaning.{ended, raised, no_active}
-use Rattle.dv_inline.specs.declared.open.Catch.{Catch}
 use Rattle.dv_inline.specs.declared.open.Inside.{Inside}
 use Rattle.dv_inline.specs.declared.open.Inside.TheVariants as inside
 use Rattle.dv_inline.specs.declared.open.Onward.{Onward}
