@@ -11,7 +11,7 @@ use Rattle.dv_frames.specs.declared.frame.Frame.TheVariants as frame
 use Rattle.dv_frames.specs.declared.frame.Inlining.TheVariants.{Goes}
 use Rattle.dv_frames.specs.declared.frame.Purpose.TheVariants.{Named}
 use Rattle.dv_inline.specs.Position.{Position, answered}
-use Rattle.dv_objects.specs.Pair.{Pair, errback, holding, timing, ending}
+use Rattle.dv_objects.specs.Pair.{Pair, errback, holding, watching, ending}
 use Rattle.dv_objects.specs.Refusals.{overflow}
 use Rattle.dv_objects.specs.Works.{is_full}
 use Rattle.dv_objects.specs.declared.canceller.Canceller.TheVariants.{Token}
@@ -81,8 +81,13 @@ FiredListsStay =
 -- a firing ends the timer
 abbrev pub FiringsEndTimers : Type 0
 FiringsEndTimers =
-    (d delay : ℕ) (w : World) → (let t = length w.objects.clock.calls in run (add_timeout d delay) w
-    ≡ (frame.Settle d ∷ frame.Add d (ending t) ∷ [], Done, world.append d (timing t) (world.start_timer d delay w)))
+    (d delay : ℕ) (body : Option Body) (w : World)
+    → (let t = length w.objects.clock.calls in run (add_timeout d delay body) w
+    ≡ (
+      frame.Settle d ∷ frame.Add d (ending t) ∷ [],
+      Done,
+      world.append d (watching t body) (world.start_timer d delay w),
+    ))
 
 -- after a turn of a loop that runs the next is scheduled
 abbrev pub TurnsFollow : Type 0

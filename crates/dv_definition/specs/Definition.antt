@@ -45,7 +45,7 @@ use Rattle.dv_jobs.specs.Works.{value_of as work_value}
 use Rattle.dv_objects.specs.Cooperator.{result_of, how_ended}
 use Rattle.dv_objects.specs.Looping.{is_scheduled}
 use Rattle.dv_objects.specs.Pair.{Pair, callback, errback, both, chain, coming, results, holding, releasing, turning}
-use Rattle.dv_objects.specs.Pair.{resuming, continuing, timing, ending, side_for}
+use Rattle.dv_objects.specs.Pair.{resuming, continuing, watching, ending, side_for}
 use Rattle.dv_objects.specs.Performed.{failed_with}
 use Rattle.dv_objects.specs.Refusals.{cancelled, not_held, overflow, underflow, not_gathered}
 use Rattle.dv_objects.specs.Timed.{timed}
@@ -319,12 +319,12 @@ give_gathered input = Finds (seconds_of input) (raise not_gathered) give
 -- 12. Time-outs (Twisted: `Deferred.addTimeout`).
 
 -- cancels d after so many ticks, unless its second pair has run by then. A timer is started, and d gets two pairs: one
--- turns a cancellation by the timer into TimeoutError, and one ends the timer
-abbrev pub add_timeout : ℕ → ℕ → Rule
-add_timeout d delay =
+-- turns a cancellation by the timer into TimeoutError, or runs the body that is given for it, and one ends the timer
+abbrev pub add_timeout : ℕ → ℕ → Option Body → Rule
+add_timeout d delay body =
     next_call λ t.
     StartTimer d delay next
-    add d (timing t) after_which adds d (ending t)
+    add d (watching t body) after_which adds d (ending t)
 
 -- 13. Loops (Twisted: `LoopingCall`).
 
@@ -603,6 +603,8 @@ run_side d (Some (side.Body body)) input = calls (performs (Some d) body input)
 run_side d (Some (side.Fire e)) input = Fires e input
 run_side d (Some (side.Timed t)) input =
     all_classes λ classes. its_time_is_over t λ is_over. give (timed classes is_over input)
+run_side d (Some (side.OnTimeout t body)) input =
+    its_time_is_over t λ is_over. If is_over (calls (performs (Some d) body input)) (give input)
 run_side d (Some (side.EndTimer t)) input = EndTimer t next give input
 run_side d (Some (side.Come child)) input = report child input
 run_side d (Some side.Results) input = give_gathered input
@@ -655,7 +657,7 @@ carry_out itself (Action-F.Chain name after) =
 carry_out itself (Action-F.Pause name) = on_deferred itself name λ d. Pause d next finished
 carry_out itself (Action-F.Unpause name) = on_deferred itself name Unpauses
 carry_out itself (Action-F.Cancel name) = on_deferred itself name cancel
-carry_out itself (Action-F.AddTimeout name delay) = on_deferred itself name λ d. add_timeout d delay
+carry_out itself (Action-F.AddTimeout name delay body) = on_deferred itself name λ d. add_timeout d delay body
 carry_out itself (Action-F.Note text) = Note text next finished
 carry_out itself (Action-F.Lock name) = NewLock name next finished
 carry_out itself (Action-F.Semaphore name tokens) = NewSemaphore name tokens next finished

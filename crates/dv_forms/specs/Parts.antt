@@ -199,6 +199,14 @@ one_or_two ds = do
   b ← if_any a.1
   Some (a.0, b)
 
+-- two items or three
+unfoldable pub two_or_three : Items → Option (Data × Data × Option Data)
+two_or_three ds = do
+  a ← first ds
+  b ← first a.1
+  c ← if_any b.1
+  Some (a.0, b.0, c)
+
 -- two items
 unfoldable pub two : Items → Option (Data × Data)
 two ds = do

@@ -15,7 +15,7 @@ use Rattle.dv_forms.specs.declared.want.Want.TheVariants as want
 use Rattle.dv_clock.specs.declared.limits.TheConstants.{MOST_DELAY}
 use Rattle.dv_script.specs.declared.limits.TheConstants.{MOST_PLACE, MOST_UNITS, MOST_WORKERS}
 use Rattle.dv_forms.specs.Limits.{most_limit}
-use Rattle.dv_forms.specs.declared.versions.TheConstants.{BODIES_SINCE, LAST_VERSION}
+use Rattle.dv_forms.specs.declared.versions.TheConstants.{BODIES_SINCE, FIRST_VERSION, LAST_VERSION}
 use Rattle.dv_forms.specs.declared.failure.TheConstants.{MOST_INDEX}
 
 -- the name of a Deferred that is looked up
@@ -40,7 +40,7 @@ a_comment = want.Leaf leaf.Comment
 
 -- a body
 abbrev pub a_body : Want
-a_body = want.Keyed keyed.Body
+a_body = want.Keyed (keyed.Body FIRST_VERSION)
 
 -- what each item of an array is
 abbrev pub item_want : Item → Want
@@ -82,11 +82,11 @@ cooperator_want key =
     if bytes_eq key (codes "comment") then a_comment else want.Other keyed.Cooperator
 
 -- what the value of a body's key is
-abbrev pub body_want : List ℕ → Want
-body_want key =
+abbrev pub body_want : ℕ → List ℕ → Want
+body_want since key =
     if bytes_eq key (codes "do") then want.Array item.Action else
     if bytes_eq key (codes "end") then want.Call call.End else
-    if bytes_eq key (codes "comment") then a_comment else want.Other keyed.Body
+    if bytes_eq key (codes "comment") then a_comment else want.Other (keyed.Body since)
 
 -- what the value of a failure's key is
 abbrev pub failure_want : List ℕ → Want
@@ -109,7 +109,7 @@ member_want (object ms) = want.Keyed keyed.Failure
 abbrev pub key_want : Keyed → List ℕ → Want
 key_want (keyed.Script version) key = script_want version key
 key_want keyed.Cooperator key = cooperator_want key
-key_want keyed.Body key = body_want key
+key_want (keyed.Body since) key = body_want since key
 key_want keyed.Failure key = failure_want key
 
 -- the keys that an object may have, in the order in which they are looked at
@@ -121,7 +121,7 @@ keys_in (keyed.Script version) =
     ∷ (if nat_eq version 2 then codes "callers" ∷ codes "events" ∷ codes "comment" ∷ []
     else codes "bodies" ∷ codes "callers" ∷ codes "events" ∷ codes "comment" ∷ []))
 keys_in keyed.Cooperator = codes "units" ∷ codes "delay" ∷ codes "comment" ∷ []
-keys_in keyed.Body = codes "do" ∷ codes "end" ∷ codes "comment" ∷ []
+keys_in (keyed.Body since) = codes "do" ∷ codes "end" ∷ codes "comment" ∷ []
 keys_in keyed.Failure = codes "fail" ∷ codes "index" ∷ codes "message" ∷ codes "sub" ∷ []
 
 -- the parts of a pair

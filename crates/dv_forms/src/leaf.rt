@@ -8,7 +8,7 @@ ghost use Rattle.dv_forms.specs.Answer.{Reads, Gives};
 ghost use Rattle.dv_forms.specs.Parts.{text_at, integer_at, number_at, bound_at, class_at};
 ghost use Rattle.dv_forms.specs.Parts.{list_flag, list_flag_at, gather_flag_named, gather_flag_at};
 ghost use Rattle.dv_forms.specs.Parts.{list_at, call_at, none, first, if_any, one, one_or_two, two};
-ghost use Rattle.dv_forms.specs.Parts.{three, four, five, fields_at};
+ghost use Rattle.dv_forms.specs.Parts.{two_or_three, three, four, five, fields_at};
 
 use crate::stop::Stop;
 use dv_script::action::{GatherFlag, ListFlag};
@@ -268,6 +268,19 @@ pub fn one_or_two(items: &[Json]) -> Result<(&Json, Option<&Json>), Stop>
     let (json, rest) = first(items)?;
     let last = if_any(rest)?;
     Ok((json, last))
+}
+
+/// Two arguments, and a third that may be left out.
+#[tactic(auto, unfolding(crate::specs::Parts::two_or_three))]
+pub fn two_or_three(items: &[Json]) -> Result<(&Json, &Json, Option<&Json>), Stop>
+    ensures { Gives
+        (λ p. (view p.0.now, view p.1.now, option_map (λ json. view json.now) p.2)) result
+        (two_or_three (items_view items.now)) }
+{
+    let (json, rest) = first(items)?;
+    let (second, rest) = first(rest)?;
+    let last = if_any(rest)?;
+    Ok((json, second, last))
 }
 
 /// Two arguments.

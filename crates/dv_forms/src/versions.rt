@@ -1,5 +1,8 @@
 //! What a version of the language has that those before it haven't, words apart.
 
+/// The first version of the language.
+pub const FIRST_VERSION: u32 = 1;
+
 /// The last version of the language.
 pub const LAST_VERSION: u32 = 3;
 
@@ -11,6 +14,9 @@ pub const WIDE_SINCE: u32 = 3;
 
 /// The first version in which a script may name bodies.
 pub const BODIES_SINCE: u32 = 3;
+
+/// The first version in which a time-out may have a body of its own.
+pub const TIMEOUTS_SINCE: u32 = 3;
 
 /// The first version in which an object may have a comment.
 pub const COMMENTS_SINCE: u32 = 3;

@@ -7,7 +7,7 @@ ghost use Rattle.dv_forms.specs.Wants.{body_want, failure_want, member_want, pai
 
 use crate::failure::MOST_INDEX;
 use crate::limits::most_limit;
-use crate::versions::{BODIES_SINCE, LAST_VERSION};
+use crate::versions::{BODIES_SINCE, FIRST_VERSION, LAST_VERSION};
 use dv_clock::limits::MOST_DELAY;
 use dv_script::limits::{MOST_PLACE, MOST_UNITS, MOST_WORKERS};
 use serde_json::Value as Json;
@@ -78,7 +78,8 @@ pub enum Keyed {
     /// A script of this version.
     Script(u32),
     Cooperator,
-    Body,
+    /// A body, at a place that may have one from this version on.
+    Body(u32),
     /// A failure that is a member of an array of a value, or that is in one.
     Failure,
 }
@@ -128,7 +129,7 @@ impl Item {
             Item::Event => Want::Call(Call::Event),
             Item::Action => Want::Call(Call::Action),
             Item::Statement => Want::Call(Call::Statement),
-            Item::Body => Want::Keyed(Keyed::Body),
+            Item::Body => Want::Keyed(Keyed::Body(FIRST_VERSION)),
             Item::Caller => Want::Array(Item::Body),
             Item::Deferred => Want::Leaf(Leaf::Found(Object::Deferred)),
             Item::Class => Want::Leaf(Leaf::Found(Object::Class)),
@@ -155,7 +156,7 @@ impl Pair {
             ],
             Pair::Body => &[
                 Want::Leaf(Leaf::New(Object::Body)),
-                Want::Keyed(Keyed::Body),
+                Want::Keyed(Keyed::Body(FIRST_VERSION)),
             ],
         }
     }
@@ -197,14 +198,14 @@ fn cooperator_want(key: &str) -> Want
     }
 }
 
-fn body_want(key: &str) -> Want
-    ensures { result ≡ body_want key.now }
+fn body_want(since: u32, key: &str) -> Want
+    ensures { result ≡ body_want since key.now }
 {
     match key {
         "do" => Want::Array(Item::Action),
         "end" => Want::Call(Call::End),
         "comment" => Want::Leaf(Leaf::Comment),
-        _ => Want::Other(Keyed::Body),
+        _ => Want::Other(Keyed::Body(since)),
     }
 }
 
@@ -240,7 +241,7 @@ impl Keyed {
         match self {
             Keyed::Script(version) => script_want(version, key),
             Keyed::Cooperator => cooperator_want(key),
-            Keyed::Body => body_want(key),
+            Keyed::Body(since) => body_want(since, key),
             Keyed::Failure => failure_want(key),
         }
     }
@@ -281,7 +282,7 @@ impl Keyed {
                 "comment",
             ],
             Keyed::Cooperator => &["units", "delay", "comment"],
-            Keyed::Body => &["do", "end", "comment"],
+            Keyed::Body(_) => &["do", "end", "comment"],
             Keyed::Failure => &["fail", "index", "message", "sub"],
         }
     }

@@ -6,6 +6,7 @@ ghost use Rattle.dv_forms.specs.Words.{action_word, apart, end_word, event_word,
 ghost use Rattle.dv_forms.specs.Words.{may_stand, narrower, own_forms, seen, statement_word};
 ghost use Rattle.dv_forms.specs.Words.{wants_in, wants_of, work_word};
 
+use crate::versions::{FIRST_VERSION, TIMEOUTS_SINCE};
 use crate::want::{Call, Item, Keyed, Leaf, Object, Want};
 use dv_clock::limits::{MOST_DELAY, MOST_TICKS};
 use dv_script::limits::{MOST_DRAINED, MOST_PLACES, MOST_SUM, MOST_UNITS};
@@ -145,7 +146,9 @@ const DEFERREDS: Want = Want::Array(Item::Deferred);
 
 const CLASSES: Want = Want::Array(Item::Class);
 
-const BODY: Want = Want::Keyed(Keyed::Body);
+const BODY: Want = Want::Keyed(Keyed::Body(FIRST_VERSION));
+
+const TIMEOUT_BODY: Want = Want::Keyed(Keyed::Body(TIMEOUTS_SINCE));
 
 const BODIES: Want = Want::Array(Item::Body);
 
@@ -154,7 +157,7 @@ const STATEMENTS: Want = Want::Array(Item::Statement);
 const WORK: Want = Want::Call(Call::Work);
 
 /// The forms of the actions.
-pub const ACTION_FORMS: [Form<ActionWord>; 40] = [
+pub const ACTION_FORMS: [Form<ActionWord>; 41] = [
     (
         ActionWord::Deferred,
         "deferred",
@@ -239,6 +242,13 @@ pub const ACTION_FORMS: [Form<ActionWord>; 40] = [
         &[DEFERRED, DELAY],
         "[\"addTimeout\",D,N]",
         1,
+    ),
+    (
+        ActionWord::AddTimeout,
+        "addTimeout",
+        &[DEFERRED, DELAY, TIMEOUT_BODY],
+        "[\"addTimeout\",D,N,BODY]",
+        TIMEOUTS_SINCE,
     ),
     (ActionWord::Note, "note", &[TEXT], "[\"note\",TEXT]", 1),
     (

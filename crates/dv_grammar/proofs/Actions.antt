@@ -175,6 +175,36 @@ module _ (table : List Class) (r : Readers) (sound : AreSound table r) where
       rw (first_is ds a a_is, ← some_injective b_then, ap (λ q. q.0) (some_injective o_then), text_is p.0 n n_is)
       (sound_deferred a.1 n p.1 b (o_is ∙ ap (λ q. Some q.1) (some_injective o_then)) b_is))))))
 
+  pub sound_timeout : (c : Data) (name : List ℕ) (delay : ℕ) → IsNumber 0 MOST_DELAY c delay
+      → (ds : Items) (o : Option Data) (b : Option Body) → if_any ds ≡ Some o → if_there r.body o ≡ Some b
+      → IsAction table (array (item (string (codes "addTimeout")) (item (string name) (item c ds))))
+      (AddTimeout name delay b)
+  sound_timeout c name delay h ds None b e g = elim (any_is ds None e) [
+    | inl k ↦ rw (k.0, ← some_injective g) (add_timeout name c delay h)
+    | inr k ↦ cc
+  ]
+  sound_timeout c name delay h ds (Some d) b e g = elim (any_is ds (Some d) e) [
+    | inl k ↦ cc
+    | inr k ↦ mapped (r.body d) Some b g (λ x x_is x_then. rw (k.1, ← some_injective k.2, ← x_then)
+        (add_timeout_with name c d delay x h (sound.body d x x_is)))
+  ]
+
+  pub timeout_read : (ds : Items) (x : Action) → timeout_of r.body ds ≡ Some x
+      → IsAction table (array (item (string (codes "addTimeout")) ds)) x
+  unfolding timeout_of two_or_three
+  timeout_read ds x e =
+      bind (two_or_three ds) _ x e (λ p p_is p_then.
+      bind (first ds) _ p p_is (λ a a_is a_then.
+      bind (first a.1) _ p a_then (λ c c_is c_then.
+      bind (if_any c.1) _ p c_then (λ o o_is o_then.
+      bind (text_at p.0) _ x p_then (λ n n_is n_then.
+      bind (number_at 0 MOST_DELAY p.1) _ x n_then (λ k k_is k_then.
+      bind (if_there r.body p.2) _ x k_then (λ b b_is b_then.
+      let same = some_injective o_then in
+      rw (first_is ds a a_is, first_is a.1 c c_is, ← some_injective b_then, ap (λ q. q.0) same, ap (λ q. q.1) same,
+      text_is p.0 n n_is)
+      (sound_timeout p.1 n k (number_is 0 MOST_DELAY p.1 k k_is) c.1 p.2 b (o_is ∙ ap (λ q. Some q.2) same) b_is))))))))
+
   pub thread_in_read : (ds : Items) (x : Action) → thread_in_of table ds ≡ Some x
       → IsAction table (array (item (string (codes "threadIn")) ds)) x
   unfolding thread_in_of
@@ -224,8 +254,8 @@ module _ (table : List Class) (r : Readers) (sound : AreSound table r) where
       named table Pause (codes "pause") pause &
       named table Unpause (codes "unpause") unpause &
       named table Cancel (codes "cancel") cancel &
-      named_with table (number_at 0 MOST_DELAY) (IsNumber 0 MOST_DELAY) (number_is 0 MOST_DELAY) AddTimeout
-      (codes "addTimeout") add_timeout &
+      timeout_read &
+      timeout_read &
       named table Note (codes "note") note &
       named_with_two table (list_at text_at) (IsList IsText) (sound_list IsText text_at text_is) (list_at list_flag_at)
       (IsList IsListFlag) (sound_list IsListFlag list_flag_at list_flag_is) ListOf (codes "list") list &
@@ -366,7 +396,8 @@ depth-get_member key (member k c ms) d e = elim (picked (slice_cmp nat_cmp key k
 -- ---- actions, bodies, statements
 
 mutual
-  unfolding action_by action_of new_deferred_of thread_in_of loop_of call_at none first if_any one one_or_two two three
+  unfolding action_by action_of new_deferred_of timeout_of thread_in_of loop_of call_at none first if_any one one_or_two
+      two_or_three two three
       four five sole pair triple readers body_by keyed_body_by fields_at statement_by statement_of leave_at
 
   pub complete_action : (table : List Class) {d : Data} {a : Action} (n : ℕ) → IsAction table d a → depth d ≤ n
@@ -385,6 +416,8 @@ mutual
   complete_action table n (unpause name) h = refl
   complete_action table n (cancel name) h = refl
   complete_action table n (add_timeout name d delay g) h = rw (complete_number 0 MOST_DELAY d delay g) refl
+  complete_action table n (add_timeout_with name c d delay b g k) h =
+      rw (complete_number 0 MOST_DELAY c delay g, complete_body table n k (omega (arith, h))) refl
   complete_action table n (note text) h = refl
   complete_action table n (list name c e children flags g k) h = rw (
     complete_list IsText text_at complete_text c children g,
@@ -532,7 +565,10 @@ mutual
   short_action (unpause name) = by_action (Unpause name) (rw (outs-Unpause name) refl)
   short_action (cancel name) = by_action (Cancel name) (rw (outs-Cancel name) refl)
   short_action (add_timeout name d delay g) =
-      by_action (AddTimeout name delay) (rw (outs-AddTimeout name delay) (rw (delay_is g) refl))
+      by_action (AddTimeout name delay None) (rw (outs-AddTimeout name delay None) (rw (delay_is g) refl))
+  short_action (add_timeout_with name c d delay b g k) =
+      by_action (AddTimeout name delay (Some b))
+      (rw (outs-AddTimeout name delay (Some b)) (rw (delay_is g, short_body k) refl))
   short_action (note text) = by_action (Note text) (rw (outs-Note text) refl)
   short_action (list name c e children flags g k) =
       by_action (ListOf name children flags) (rw (outs-List name children flags) refl)

@@ -155,7 +155,11 @@ mutual
     cancel : (name : List ℕ) → IsAction table (call (codes "cancel") (string name ∷ [])) (Cancel name)
     -- ["addTimeout",D,N]
     add_timeout : (name : List ℕ) (d : Data) (delay : ℕ) → IsNumber 0 MOST_DELAY d delay
-        → IsAction table (call (codes "addTimeout") (string name ∷ d ∷ [])) (AddTimeout name delay)
+        → IsAction table (call (codes "addTimeout") (string name ∷ d ∷ [])) (AddTimeout name delay None)
+    -- ["addTimeout",D,N,BODY]
+    add_timeout_with : (name : List ℕ) (c d : Data) (delay : ℕ) (body : Body) → IsNumber 0 MOST_DELAY c delay
+        → IsBody table d body
+        → IsAction table (call (codes "addTimeout") (string name ∷ c ∷ d ∷ [])) (AddTimeout name delay (Some body))
     -- ["note",TEXT]
     note : (text : List ℕ) → IsAction table (call (codes "note") (string text ∷ [])) (Note text)
     -- ["list",D,[D..],[FLAG..]]
@@ -377,7 +381,7 @@ action_step (Action-F.Chain name other) = true
 action_step (Action-F.Pause name) = true
 action_step (Action-F.Unpause name) = true
 action_step (Action-F.Cancel name) = true
-action_step (Action-F.AddTimeout name delay) = is_delay delay
+action_step (Action-F.AddTimeout name delay b) = is_delay delay && or_absent b
 action_step (Action-F.Note text) = true
 action_step (Action-F.List name children flags) = true
 action_step (Action-F.Gather name children flags) = true

@@ -45,7 +45,7 @@ use Rattle.dv_forms.specs.Leaving.{may_leave}
 use Rattle.dv_forms.specs.Limits.{most_limit}
 use Rattle.dv_forms.specs.Parts.{◌>>=◌, bound_at, call_at, class_at, declaration_at, field, fields_at, five, four}
 use Rattle.dv_forms.specs.Parts.{gather_flag_at, if_there, integer_at, list_at, list_flag_at, none, number_at, one_of}
-use Rattle.dv_forms.specs.Parts.{one_or_two, table_for, text_at, three_of, two_of, value_at}
+use Rattle.dv_forms.specs.Parts.{one_or_two, table_for, text_at, three_of, two_of, two_or_three, value_at}
 use Rattle.dv_grammar.specs.Grammar.{body_keys, cooperator_keys, keys_of, plain_cooperator, running}
 
 -- an end, by its word
@@ -95,6 +95,15 @@ new_deferred_of body ds = do
   canceller ← if_there body p.1
   Some (Deferred name canceller)
 
+-- a time-out, whose body is read so
+unfoldable pub timeout_of : (Data → Option Body) → Items → Option Action
+timeout_of body ds = do
+  p ← two_or_three ds
+  name ← text_at p.0
+  delay ← number_at 0 MOST_DELAY p.1
+  given ← if_there body p.2
+  Some (AddTimeout name delay given)
+
 -- a work that a thread of a pool does
 unfoldable pub thread_in_of : List Class → Items → Option Action
 thread_in_of table ds = do
@@ -137,7 +146,7 @@ action_of table body statement word.Chain ds = two_of text_at text_at Chain ds
 action_of table body statement word.Pause ds = one_of text_at Pause ds
 action_of table body statement word.Unpause ds = one_of text_at Unpause ds
 action_of table body statement word.Cancel ds = one_of text_at Cancel ds
-action_of table body statement word.AddTimeout ds = two_of text_at (number_at 0 MOST_DELAY) AddTimeout ds
+action_of table body statement word.AddTimeout ds = timeout_of body ds
 action_of table body statement word.Note ds = one_of text_at Note ds
 action_of table body statement word.List ds = three_of text_at (list_at text_at) (list_at list_flag_at) ListOf ds
 action_of table body statement word.Gather ds = three_of text_at (list_at text_at) (list_at gather_flag_at) Gather ds

@@ -3,7 +3,7 @@ use Rattle.std.specs.Prelude.{ℕ, Bool, true, false, not, if◌then◌else◌, 
 use Rattle.std.specs.Prelude.{codes}
 use Rattle.serde_json.specs.Data.{Data, unsigned, number, boolean, string, array, object, member, no_members}
 use Rattle.serde_json.specs.View.{items_of}
-use Rattle.dv_forms.specs.declared.versions.TheConstants.{COMMENTS_SINCE, FAILURES_SINCE, LAST_VERSION}
+use Rattle.dv_forms.specs.declared.versions.TheConstants.{COMMENTS_SINCE, FAILURES_SINCE, FIRST_VERSION, LAST_VERSION}
 use Rattle.dv_forms.specs.declared.want.Leaf.{Leaf}
 use Rattle.dv_forms.specs.declared.want.Leaf.TheVariants as leaf
 use Rattle.dv_forms.specs.declared.want.Keyed.{Keyed}
@@ -17,7 +17,7 @@ use Rattle.dv_language.specs.Wants.{keyed_name, want_data}
 abbrev pub is_needed : Keyed → List ℕ → Bool
 is_needed (keyed.Script version) key = bytes_eq key (codes "version") || bytes_eq key (codes "events")
 is_needed keyed.Cooperator key = not (bytes_eq key (codes "comment"))
-is_needed keyed.Body key = false
+is_needed (keyed.Body version) key = false
 is_needed keyed.Failure key = bytes_eq key (codes "fail") || bytes_eq key (codes "message")
 
 -- whether a leaf is a comment
@@ -65,7 +65,7 @@ since_script key =
 abbrev pub since : Keyed → List ℕ → ℕ
 since (keyed.Script version) key = since_script key
 since keyed.Cooperator key = since_by (key_want keyed.Cooperator key)
-since keyed.Body key = since_by (key_want keyed.Body key)
+since (keyed.Body version) key = since_by (key_want (keyed.Body version) key)
 since keyed.Failure key = FAILURES_SINCE
 
 -- a key
@@ -84,4 +84,4 @@ keys_of k = map (key_data k) (keys_in k)
 abbrev pub keys_data : Data
 keys_data = array (items_of (
     keys_of (keyed.Script LAST_VERSION)
-    ++ (keys_of keyed.Cooperator ++ (keys_of keyed.Body ++ keys_of keyed.Failure))))
+    ++ (keys_of keyed.Cooperator ++ (keys_of (keyed.Body FIRST_VERSION) ++ keys_of keyed.Failure))))

@@ -42,7 +42,7 @@ place_name call.Work = codes "work"
 abbrev pub keyed_name : Keyed → List ℕ
 keyed_name (keyed.Script version) = codes "script"
 keyed_name keyed.Cooperator = codes "cooperator"
-keyed_name keyed.Body = codes "body"
+keyed_name (keyed.Body since) = codes "body"
 keyed_name keyed.Failure = codes "failure"
 
 -- an object with its type alone

@@ -6,7 +6,7 @@ ghost use Rattle.dv_language.specs.Keys.{is_needed, is_other, since, since_by, s
 ghost use Rattle.dv_language.specs.Keys.{key_data, keys_of, keys_data};
 
 use crate::wants::{keyed_name, want_json};
-use dv_forms::versions::{COMMENTS_SINCE, FAILURES_SINCE, LAST_VERSION};
+use dv_forms::versions::{COMMENTS_SINCE, FAILURES_SINCE, FIRST_VERSION, LAST_VERSION};
 use dv_forms::want::{Keyed, Leaf, Want};
 use serde_json::{Value as Json, json, push};
 use std::alloc::{AllocError, Global};
@@ -18,7 +18,7 @@ fn is_needed(keyed: Keyed, key: &str) -> bool
     match keyed {
         Keyed::Script(_) => key == "version" || key == "events",
         Keyed::Cooperator => key != "comment",
-        Keyed::Body => false,
+        Keyed::Body(_) => false,
         Keyed::Failure => key == "fail" || key == "message",
     }
 }
@@ -78,7 +78,7 @@ fn since(keyed: Keyed, key: &str) -> u32
 {
     match keyed {
         Keyed::Script(_) => since_script(key),
-        Keyed::Cooperator | Keyed::Body => since_by(keyed.want(key)),
+        Keyed::Cooperator | Keyed::Body(_) => since_by(keyed.want(key)),
         Keyed::Failure => FAILURES_SINCE,
     }
 }
@@ -114,7 +114,7 @@ pub fn keys_json(alloc: Global) -> Result<Json, AllocError>
     let mut rows = Vec::new(alloc);
     push_keys(alloc, &mut rows, Keyed::Script(LAST_VERSION))?;
     push_keys(alloc, &mut rows, Keyed::Cooperator)?;
-    push_keys(alloc, &mut rows, Keyed::Body)?;
+    push_keys(alloc, &mut rows, Keyed::Body(FIRST_VERSION))?;
     push_keys(alloc, &mut rows, Keyed::Failure)?;
     Ok(Json::Array(rows))
 }

@@ -52,7 +52,7 @@ pub fn keyed_name(keyed: Keyed) -> &'static str
     match keyed {
         Keyed::Script(_) => "script",
         Keyed::Cooperator => "cooperator",
-        Keyed::Body => "body",
+        Keyed::Body(_) => "body",
         Keyed::Failure => "failure",
     }
 }

@@ -171,7 +171,7 @@ carry_sound itself (Action-F.Chain name after) w = (tt, λ d q. (tt, λ e r. add
 carry_sound itself (Action-F.Pause name) w = (tt, λ d q. (tt, tt))
 carry_sound itself (Action-F.Unpause name) w = (tt, λ d q. tt)
 carry_sound itself (Action-F.Cancel name) w = (tt, λ d q. cancel_sound d w)
-carry_sound itself (Action-F.AddTimeout name delay) w =
+carry_sound itself (Action-F.AddTimeout name delay body) w =
     (tt, λ d q. (tt, ((tt, (tt, (tt, tt))), (tt, tt))))
 carry_sound itself (Action-F.Lock name) w = (tt, tt)
 carry_sound itself (Action-F.Semaphore name tokens) w = (tt, tt)
@@ -275,6 +275,7 @@ side_sound d None input w m = tt
 side_sound d (Some (side.Body body)) input w m = (tt, (m, tt))
 side_sound d (Some (side.Fire e)) input w m = tt
 side_sound d (Some (side.Timed t)) input w m = tt
+side_sound d (Some (side.OnTimeout t body)) input w m = ((tt, (m, tt)), tt)
 side_sound d (Some (side.EndTimer t)) input w m = (tt, tt)
 side_sound d (Some (side.Come child)) input w m = λ came h. ((tt, λ v q. (tt, tt)), (tt, tt))
 side_sound d (Some side.Results) input w m = (tt, λ v q. tt)

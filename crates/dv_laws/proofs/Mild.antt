@@ -30,7 +30,7 @@ use Rattle.dv_objects.specs.declared.follow.Follow.TheVariants as follow
 use Rattle.std.proofs.Common.{sym, ap, subst, ◌∙◌, cond}
 use Rattle.dv_world.specs.declared.found.Found.{Found}
 use Rattle.dv_world.specs.declared.found.Found.TheVariants.{All, Unbound}
-use Rattle.dv_objects.specs.Pair.{Pair, callback, errback, both, chain, continuing, timing}
+use Rattle.dv_objects.specs.Pair.{Pair, callback, errback, both, chain, continuing, watching}
 use Rattle.dv_objects.specs.declared.pair.Side.{Side}
 use Rattle.dv_objects.specs.declared.pair.Side.TheVariants as side
 use Rattle.dv_objects.specs.declared.performed.Performed.{Performed}
@@ -460,8 +460,8 @@ carry_mild itself (Action-F.Pause name) w = search [] depth 20
 carry_mild itself (Action-F.Unpause name) w = search [] depth 20
 carry_mild itself (Action-F.Cancel name) w =
     (tt, λ d. (cancel_withdraws, λ r. reached_mild r (cancel d w).1))
-carry_mild itself (Action-F.AddTimeout name delay) w =
-    (tt, λ d. (tt, tt, (add_mild d (timing (length w.objects.clock.calls)) w, (tt, tt))))
+carry_mild itself (Action-F.AddTimeout name delay body) w =
+    (tt, λ d. (tt, tt, (add_mild d (watching (length w.objects.clock.calls) body) w, (tt, tt))))
 carry_mild itself (Action-F.Lock name) w = search [] depth 20
 carry_mild itself (Action-F.Semaphore name tokens) w = search [] depth 20
 carry_mild itself (Action-F.Acquire name lock) w = search [] depth 20
@@ -584,6 +584,7 @@ side_rule_mild d None input w = tt
 side_rule_mild d (Some (side.Body body)) input w = search [] depth 20
 side_rule_mild d (Some (side.Fire e)) input w = tt
 side_rule_mild d (Some (side.Timed t)) input w = search [] depth 20
+side_rule_mild d (Some (side.OnTimeout t body)) input w = search [] depth 20
 side_rule_mild d (Some (side.EndTimer t)) input w = search [] depth 20
 side_rule_mild d (Some (side.Come child)) input w = search [] depth 20
 side_rule_mild d (Some side.Results) input w = search [] depth 20

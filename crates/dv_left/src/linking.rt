@@ -92,6 +92,7 @@ impl Links {
             Side::ResumeTask(task) => self.tasks.push(task.number() as usize, at),
             Side::Body(_)
             | Side::Timed(_)
+            | Side::OnTimeout(_, _)
             | Side::EndTimer(_)
             | Side::Results
             | Side::Hold(_, _)

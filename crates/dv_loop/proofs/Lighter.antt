@@ -52,7 +52,7 @@ action_within (Action-F.Chain name next) = 0
 action_within (Action-F.Pause name) = 0
 action_within (Action-F.Unpause name) = 0
 action_within (Action-F.Cancel name) = 0
-action_within (Action-F.AddTimeout name delay) = 1
+action_within (Action-F.AddTimeout name delay body) = 1 + unwrap_or body 0
 action_within (Action-F.Note text) = 0
 action_within (Action-F.List name children flags) = 1
 action_within (Action-F.Gather name children flags) = 1
@@ -296,8 +296,8 @@ add_children m l d i (c ∷ cs) q = (q, add_children m l d (1 + i) cs q)
 list : (m : ℕ) (name children : List ℕ) (flags : Flags) → 1 < m → Within m (page.list name children flags)
 list m name children flags q = λ w v. ((omega (arith, q), tt), add_children m _ _ 0 children q)
 
-add_timeout : (m d delay : ℕ) → 1 < m → Within m (page.add_timeout d delay)
-add_timeout m d delay q = λ w. ((tt, (omega (arith, q), tt)), (q, tt))
+add_timeout : (m d delay : ℕ) (body : Option Body) → 1 < m → Within m (page.add_timeout d delay body)
+add_timeout m d delay body q = λ w. ((tt, (omega (arith, q), tt)), (q, tt))
 
 turn : (m l : ℕ) (body : Body) → 1 + body_size body < m → Within m (page.turn l body)
 turn m l body q = (tt, (omega (arith, q, body_size_out body), (omega (arith, q, body_size_out body), tt)))
@@ -330,7 +330,8 @@ carry_out m itself (Action-F.Chain name after) q = λ w. (tt, λ d e. λ v. (tt,
 carry_out m itself (Action-F.Pause name) q = λ w. (tt, λ d e. tt)
 carry_out m itself (Action-F.Unpause name) q = λ w. (tt, λ d e. omega (arith, q))
 carry_out m itself (Action-F.Cancel name) q = λ w. (tt, λ d e. cancel m d)
-carry_out m itself (Action-F.AddTimeout name delay) q = λ w. (tt, λ d e. add_timeout m d delay (omega (arith, q)))
+carry_out m itself (Action-F.AddTimeout name delay body) q =
+    λ w. (tt, λ d e. add_timeout m d delay body (omega (arith, q)))
 carry_out m itself (Action-F.Lock name) q = tt
 carry_out m itself (Action-F.Semaphore name tokens) q = tt
 carry_out m itself (Action-F.Acquire name lock) q = λ w. (tt, λ l e. acquire m name l (omega (arith, q)))

@@ -51,7 +51,9 @@ pub fn begin<'s>(
         Action::Pause(name) => pause(turn, itself, name.as_str()),
         Action::Unpause(name) => unpause(turn, itself, name.as_str()),
         Action::Cancel(name) => cancel_named(turn, itself, name.as_str()),
-        Action::AddTimeout(name, delay) => add_timeout(turn, itself, name.as_str(), *delay),
+        Action::AddTimeout(name, delay, body) => {
+            add_timeout(turn, itself, name.as_str(), *delay, body)
+        }
         Action::Lock(name) => turn.world.make_lock(name.as_str()),
         Action::Semaphore(name, tokens) => turn.world.make_semaphore(name.as_str(), *tokens),
         Action::Acquire(name, lock) => acquire(turn, TextRef::new(name), lock.as_str()),

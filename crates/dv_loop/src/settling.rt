@@ -5,8 +5,11 @@ ghost use Rattle.dv_value.specs.Failure.{is_fault};
 ghost use Rattle.dv_objects.specs.Pair.{side_for};
 ghost use Rattle.dv_store.specs.declared.store.Step.TheVariants.{Run};
 ghost use Rattle.dv_objects.specs.declared.performed.Performed.TheVariants.{Done};
+ghost use Rattle.dv_objects.specs.declared.pair.Side.TheVariants.{OnTimeout};
+ghost use Rattle.dv_definition.specs.Words.{calls, performs};
 ghost use Rattle.dv_loop.specs.Settling.{place};
 
+use dv_clock::call_id::CallId;
 use dv_frames::following::{fire_and_settle, whole};
 use dv_frames::frame::{Frame, Purpose};
 use dv_frames::maybe::perform_for;
@@ -19,6 +22,7 @@ use dv_objects::input::Input;
 use dv_objects::pair::{Pair, Side};
 use dv_objects::performed::Performed;
 use dv_objects::timed::timed;
+use dv_script::lent::BodyRef;
 use dv_store::store::Step;
 use dv_task::cooperating::{end_hold, fail_where};
 use dv_task::looping::{end_turn, fail_turn};
@@ -94,10 +98,7 @@ fn begin<'s>(
     ensures { OnOk result (turn.new ≡ after (page.run_side id (Some side.entry) input) turn.old) }
 {
     match side {
-        Side::Body(body) => {
-            let input = Input::new(turn.alloc, input)?;
-            turn.stack.push(Frame::Rest(whole(Some(id), body, input)))
-        }
+        Side::Body(body) => perform_side(turn, id, body, input),
         Side::Fire(to) => fire_and_settle(turn, to, input),
         Side::Timed(timer) => {
             let over = turn.world.has_timed_out(timer);
@@ -105,6 +106,7 @@ fn begin<'s>(
             turn.performed = Performed::Gave(given);
             Ok(())
         }
+        Side::OnTimeout(timer, body) => run_if_over(turn, id, timer, body, input),
         Side::EndTimer(timer) => {
             turn.world.end_timer(timer);
             turn.performed = Performed::Gave(Given::own(input));
@@ -133,6 +135,40 @@ fn begin<'s>(
         Side::FailTask(task) => fail_where(turn, task, input.into_failure()),
         Side::Resume(inline) => resume(turn, inline, input),
     }
+}
+
+/// Runs a body of a Deferred on an input.
+fn perform_side<'s>(
+    turn: &mut Turn<'s>,
+    id: DeferredId,
+    body: BodyRef<'s>,
+    input: Value,
+) -> Result<(), AllocError>
+    ensures { OnOk result
+        (turn.new ≡ after (calls (performs (Some id) body.entry input)) turn.old) }
+{
+    let input = Input::new(turn.alloc, input)?;
+    turn.stack.push(Frame::Rest(whole(Some(id), body, input)))
+}
+
+/// Runs a body on the result of a Deferred where the time of a timer has come; else the result is
+/// passed on.
+fn run_if_over<'s>(
+    turn: &mut Turn<'s>,
+    id: DeferredId,
+    timer: CallId,
+    body: BodyRef<'s>,
+    input: Value,
+) -> Result<(), AllocError>
+    requires done { turn.old.performed ≡ Done }
+    ensures { OnOk result (turn.new
+        ≡ after (page.run_side id (Some (OnTimeout timer body.entry)) input) turn.old) }
+{
+    if turn.world.has_timed_out(timer) {
+        return perform_side(turn, id, body, input);
+    }
+    turn.performed = Performed::Gave(Given::own(input));
+    Ok(())
 }
 
 /// Puts what a side of a Deferred gave in place; the Deferred is to be settled.

@@ -34,6 +34,15 @@ chain to = record { callback = Some (side.Fire to); errback = Some (side.Fire to
 abbrev pub timing : ℕ → Pair
 timing t = record { callback = Some (side.Timed t); errback = Some (side.Timed t) }
 
+-- both run a body where the time of a timer has come
+abbrev pub on_timeout : ℕ → Body → Pair
+on_timeout t body = record { callback = Some (side.OnTimeout t body); errback = Some (side.OnTimeout t body) }
+
+-- the first of the two pairs of a timer, by the body that its Deferred has for it
+abbrev pub watching : ℕ → Option Body → Pair
+watching t None = timing t
+watching t (Some body) = on_timeout t body
+
 -- both end a timer
 abbrev pub ending : ℕ → Pair
 ending t = record { callback = Some (side.EndTimer t); errback = Some (side.EndTimer t) }
@@ -73,6 +82,7 @@ pair_of (kind.Errback body) = errback body
 pair_of (kind.Both on_value on_failure) = both on_value on_failure
 pair_of (kind.Chain to) = chain to
 pair_of (kind.Timing t) = timing t
+pair_of (kind.OnTimeout t body) = on_timeout t body
 pair_of (kind.Ending t) = ending t
 pair_of (kind.Coming child) = coming child
 pair_of kind.Results = results

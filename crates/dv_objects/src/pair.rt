@@ -35,6 +35,9 @@ pub enum Side<'s> {
     /// The value is passed on, but TimeoutError in place of a cancellation where the time of this
     /// timer has come (Twisted: the first of the two that `Deferred.addTimeout` adds).
     Timed(CallId),
+    /// The body runs on the value where the time of this timer has come; else the value is passed on
+    /// (Twisted: the first of the two, with `onTimeoutCancel`).
+    OnTimeout(CallId, BodyRef<'s>),
     /// This timer ends, where its time hasn't come, and the value is passed on (Twisted: the second
     /// of the two).
     EndTimer(CallId),
@@ -78,6 +81,7 @@ enum Kind<'s> {
     Both(BodyRef<'s>, BodyRef<'s>),
     Chain(DeferredId),
     Timing(CallId),
+    OnTimeout(CallId, BodyRef<'s>),
     Ending(CallId),
     Coming(Child),
     Results,
@@ -119,8 +123,8 @@ impl<'s> Model for Pair<'s> {
 }
 
 impl<'s> Pair<'s> {
-    ghost use Rattle.dv_objects.specs.Pair.{callback, errback, both, chain, timing, ending, coming};
-    ghost use Rattle.dv_objects.specs.Pair.{results, holding, releasing, turning, resuming};
+    ghost use Rattle.dv_objects.specs.Pair.{callback, errback, both, chain, timing, watching, ending};
+    ghost use Rattle.dv_objects.specs.Pair.{coming, results, holding, releasing, turning, resuming};
     ghost use Rattle.dv_objects.specs.Pair.{continuing, side_for};
 
     /// A callback alone (Twisted: `Deferred.addCallback`).
@@ -166,6 +170,20 @@ impl<'s> Pair<'s> {
     {
         Pair {
             kind: Kind::Timing(timer),
+        }
+    }
+
+    /// The first of the two pairs of a timer: both run the body where its time has come. Without a
+    /// body, both turn a cancellation into TimeoutError then (Twisted: `Deferred.addTimeout`, its
+    /// `onTimeoutCancel`).
+    pub fn watching(timer: CallId, body: &'s Option<Body>) -> Pair<'s>
+        ensures { result ≡ watching timer body.now }
+    {
+        match body {
+            None => Pair::timing(timer),
+            Some(body) => Pair {
+                kind: Kind::OnTimeout(timer, BodyRef::new(body)),
+            },
         }
     }
 
@@ -264,6 +282,7 @@ fn callback_of<'s>(kind: Kind<'s>) -> Option<Side<'s>>
         Kind::Errback(_) => None,
         Kind::Chain(to) => Some(Side::Fire(to)),
         Kind::Timing(timer) => Some(Side::Timed(timer)),
+        Kind::OnTimeout(timer, body) => Some(Side::OnTimeout(timer, body)),
         Kind::Ending(timer) => Some(Side::EndTimer(timer)),
         Kind::Coming(child) => Some(Side::Come(child)),
         Kind::Results => Some(Side::Results),
@@ -284,6 +303,7 @@ fn errback_of<'s>(kind: Kind<'s>) -> Option<Side<'s>>
         Kind::Callback(_) | Kind::Results | Kind::Holding(..) => None,
         Kind::Chain(to) => Some(Side::Fire(to)),
         Kind::Timing(timer) => Some(Side::Timed(timer)),
+        Kind::OnTimeout(timer, body) => Some(Side::OnTimeout(timer, body)),
         Kind::Ending(timer) => Some(Side::EndTimer(timer)),
         Kind::Coming(child) => Some(Side::Come(child)),
         Kind::Releasing(lock) => Some(Side::Release(lock)),
@@ -303,6 +323,7 @@ fn lacks<'s>(kind: &Kind<'s>, failed: bool) -> bool
         Kind::Both(..)
         | Kind::Chain(_)
         | Kind::Timing(_)
+        | Kind::OnTimeout(..)
         | Kind::Ending(_)
         | Kind::Coming(_)
         | Kind::Releasing(_)

@@ -84,7 +84,7 @@ name_too : (a b : Asked) → IsWeaker a b → (o : Keyed) (x : List ℕ) → nam
 name_too a b weak (keyed.Script version) x h = refl
 name_too a b weak keyed.Cooperator x h = refl
 name_too a b weak keyed.Failure x h = refl
-name_too a b weak keyed.Body x h = weak.leaf (leaf_of.Found object.Body) x h
+name_too a b weak (keyed.Body since) x h = weak.leaf (leaf_of.Found object.Body) x h
 
 parts_too : (a b : Asked) (f g : Want → Data → Bool) → IsWeaker a b → Leads f g → (w : Want) (d : Data)
     → in_parts a f w d ≡ true → in_parts b g w d ≡ true

@@ -72,7 +72,7 @@ abbrev pub name_suits : Asked → Keyed → List ℕ → Bool
 name_suits a (keyed.Script version) name = true
 name_suits a keyed.Cooperator name = true
 name_suits a keyed.Failure name = true
-name_suits a keyed.Body name = a.of_leaf (leaf.Found object.Body) name
+name_suits a (keyed.Body since) name = a.of_leaf (leaf.Found object.Body) name
 
 -- of a value at a place that asks for this, by what its parts are found to be; no other value has a text that a
 -- question asks of

@@ -68,11 +68,12 @@ stands version leaf.ListFlag = true
 stands version leaf.GatherFlag = true
 stands version leaf.Comment = nat_le COMMENTS_SINCE version
 
--- whether such an object may stand in a script of this version: only a failure needs a later one
+-- whether such an object may stand in a script of this version: a failure needs a later one, and so does a body at some
+-- places
 abbrev pub object_stands : ℕ → Keyed → Bool
 object_stands version (keyed.Script v) = true
 object_stands version keyed.Cooperator = true
-object_stands version keyed.Body = true
+object_stands version (keyed.Body since) = nat_le since version
 object_stands version keyed.Failure = nat_le FAILURES_SINCE version
 
 -- whether a class is looked up there

@@ -39,7 +39,7 @@ fn name_suits(question: &Question<'_>, keyed: Keyed, name: &str) -> bool
 {
     match keyed {
         Keyed::Script(_) | Keyed::Cooperator | Keyed::Failure => true,
-        Keyed::Body => question.of_leaf(Leaf::Found(Object::Body), name),
+        Keyed::Body(_) => question.of_leaf(Leaf::Found(Object::Body), name),
     }
 }
 

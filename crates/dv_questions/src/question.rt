@@ -106,7 +106,8 @@ pub fn object_stands(version: u32, keyed: Keyed) -> bool
 {
     match keyed {
         Keyed::Failure => FAILURES_SINCE <= version,
-        Keyed::Script(_) | Keyed::Cooperator | Keyed::Body => true,
+        Keyed::Body(since) => since <= version,
+        Keyed::Script(_) | Keyed::Cooperator => true,
     }
 }
 

@@ -49,9 +49,10 @@ pub enum Action {
     Unpause(Text),
     /// Cancels it (Twisted: `Deferred.cancel`).
     Cancel(Text),
-    /// Cancels it after so many ticks of the clock, at most 10^12, unless it has a result by then
-    /// (Twisted: `Deferred.addTimeout`).
-    AddTimeout(Text, u64),
+    /// Cancels it after so many ticks of the clock, at most 10^12, unless it has a result by then.
+    /// The body runs on the result if the time has come (Twisted: `Deferred.addTimeout`, its
+    /// `onTimeoutCancel`).
+    AddTimeout(Text, u64, Option<Body>),
     /// Writes the text to the journal.
     Note(Text),
     /// Makes a DeferredList of the children (Twisted: `DeferredList`).

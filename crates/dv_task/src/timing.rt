@@ -11,6 +11,7 @@ use dv_frames::frame::Frame;
 use dv_frames::turn::Turn;
 use dv_journal::deferred_id::DeferredId;
 use dv_objects::pair::Pair;
+use dv_script::body::Body;
 use std::alloc::AllocError;
 
 /// Cancels a delayed call by its name (Twisted: `DelayedCall.cancel`).
@@ -45,30 +46,36 @@ pub fn reset_call<'s>(
     Ok(())
 }
 
-/// Gives a Deferred so many ticks, by its name, after which it is cancelled (Twisted:
-/// `Deferred.addTimeout`).
+/// Gives a Deferred so many ticks, by its name, after which it is cancelled, and the body, if there
+/// is one, runs on its result (Twisted: `Deferred.addTimeout`, its `onTimeoutCancel`).
 pub fn add_timeout<'s>(
     turn: &mut Turn<'s>,
     itself: Option<DeferredId>,
     name: &str,
     delay: u64,
+    body: &'s Option<Body>,
 ) -> Result<(), AllocError>
     requires done { turn.old.performed ≡ Done }
-    ensures { OnOk result
-        (turn.new ≡ after (on_deferred itself name.now λ d. page.add_timeout d delay) turn.old) }
+    ensures { OnOk result (turn.new
+        ≡ after (on_deferred itself name.now λ d. page.add_timeout d delay body.now) turn.old) }
 {
     let Some(id) = turn.find(itself, name)? else {
         return Ok(());
     };
-    begin_timer(turn, id, delay)
+    begin_timer(turn, id, delay, body)
 }
 
 /// Starts a timer of a Deferred, and adds the two pairs that go with it.
-fn begin_timer<'s>(turn: &mut Turn<'s>, id: DeferredId, delay: u64) -> Result<(), AllocError>
+fn begin_timer<'s>(
+    turn: &mut Turn<'s>,
+    id: DeferredId,
+    delay: u64,
+    body: &'s Option<Body>,
+) -> Result<(), AllocError>
     requires done { turn.old.performed ≡ Done }
-    ensures { OnOk result (turn.new ≡ after (page.add_timeout id delay) turn.old) }
+    ensures { OnOk result (turn.new ≡ after (page.add_timeout id delay body.now) turn.old) }
 {
     let timer = turn.world.start_timer(id, delay)?;
     turn.stack.push(Frame::Add(id, Pair::ending(timer)))?;
-    add_and_settle(turn, id, Pair::timing(timer))
+    add_and_settle(turn, id, Pair::watching(timer, body))
 }

@@ -146,9 +146,9 @@ pub each_key : (P : List ℕ → Type 0) (ks : List (List ℕ)) → ((i : ℕ) �
 each_key P [] h = tt
 each_key P (k ∷ ks) h = (h 0 (omega arith), each_key P ks (λ i less. h (suc i) (omega arith)))
 
-body_key : (P : List ℕ → Type 0) (key : List ℕ) → EachKey P (keys_in keyed.Body)
-    → (body_want key ≡ want.Other keyed.Body → P key) → P key
-body_key P key all other =
+body_key : (P : List ℕ → Type 0) (since : ℕ) (key : List ℕ) → EachKey P (keys_in (keyed.Body since))
+    → (body_want since key ≡ want.Other (keyed.Body since) → P key) → P key
+body_key P since key all other =
     either key (codes "do") (λ t e. subst P e all.0) (λ f0.
     either key (codes "end") (λ t e. subst P e all.1.0) (λ f1.
     either key (codes "comment") (λ t e. subst P e all.1.1.0) (λ f2.
@@ -227,7 +227,7 @@ pub known_key : (P : List ℕ → Type 0) (k : Keyed) (key : List ℕ) → EachK
 known_key P (keyed.Script version) key all other =
     script_key P version (nat_eq version 1) (nat_eq version 2) refl refl key all other
 known_key P keyed.Cooperator key all other = cooperator_key P key all other
-known_key P keyed.Body key all other = body_key P key all other
+known_key P (keyed.Body since) key all other = body_key P since key all other
 known_key P keyed.Failure key all other = failure_key P key all other
 
 -- the values of all keys, by those that the object may have and the others

@@ -71,7 +71,7 @@ names_asked v w same =
       leaf = λ l x h. rw (← same) h;
       word = λ c x h. refl;
       object = λ k e h. refl;
-      body = λ x h. rw (← same) h;
+      body = λ since x h. rw (← same) h;
     }
 
 -- ---- classes
@@ -85,7 +85,7 @@ classes_asked (question.Classes given) d table of same =
       leaf = λ l x h. ap (λ t. is_known t l x) (sym (of ∙ same)) ∙ h;
       word = λ c x h. refl;
       object = λ k e h. refl;
-      body = λ x h. ap (λ t. is_known t (leaf.Found object_of.Body) x) (sym (of ∙ same)) ∙ h;
+      body = λ since x h. ap (λ t. is_known t (leaf.Found object_of.Body) x) (sym (of ∙ same)) ∙ h;
     }
 classes_asked (question.Pools ps) d table of same = absurd of
 classes_asked (question.Bodies bs) d table of same = absurd of
@@ -204,7 +204,7 @@ pools_tell (question.Pools ps) d draft of g = record {
       (among_declared d draft ps.now of g x) h;
   word = λ c x h. refl;
   object = λ k e h. refl;
-  body = λ x h. refl;
+  body = λ since x h. refl;
 }
 
 all_distinct : (d : Data) (draft : Draft) (b : Bool) → nat_eq (version_in d) 1 ≡ b → IsScript d draft → PoolsDistinct d
@@ -272,7 +272,7 @@ bodies_tell (question.Bodies bs) d draft of g = record {
       (body_declared d draft bs.now of g x) h;
   word = λ c x h. refl;
   object = λ k e h. refl;
-  body = λ x h. body_declared d draft bs.now of g x h;
+  body = λ since x h. body_declared d draft bs.now of g x h;
 }
 
 all_own_names : (d : Data) (draft : Draft) (b : Bool) → nat_lt (version_in d) BODIES_SINCE ≡ b → IsScript d draft
@@ -350,7 +350,8 @@ leaf_stands v leaf.GatherFlag x h = refl
 keyed_stands : (v : ℕ) (k : Keyed) (d : Data) → fits v (want.Keyed k) d ≡ true → object_stands v k ≡ true
 keyed_stands v (keyed.Script version) d h = refl
 keyed_stands v keyed.Cooperator d h = refl
-keyed_stands v keyed.Body d h = refl
+keyed_stands v (keyed.Body since) d h =
+    (and_parts (nat_le since v) (is_some (as_object d) || (is_some (as_str d) && nat_le BODIES_SINCE v)) h).0
 keyed_stands v keyed.Failure d h =
     let p = and_parts (is_some (as_object d) && object_stands v keyed.Failure) (has_keys keyed.Failure d) h in
     (and_parts (is_some (as_object d)) (object_stands v keyed.Failure) p.0).1
@@ -361,7 +362,7 @@ shape_asked v w same =
       leaf = λ l x h. rw (← same) (leaf_stands v l x h);
       word = λ c x h. rw (← same) h;
       object = λ k d h. rw (← same) (keyed_stands v k d h);
-      body = λ x h. rw (← same) h;
+      body = λ since x h. rw (← same) h;
     }
 
 -- refused for its shape, a part is found that doesn't fit

@@ -46,7 +46,8 @@ use Rattle.dv_grammar.specs.Grammar.{body_keys, cooperator_keys, keys_of, plain_
 use Rattle.dv_grammar.specs.Grammar.{adds, raises, traps, waits, runs, throws, IsWork, gives, fails, sums, IsListFlag}
 use Rattle.dv_grammar.specs.Grammar.{IsGatherFlag, IsAction, deferred, deferred_with, callback, errback, add_callback}
 use Rattle.dv_grammar.specs.Grammar.{add_errback}
-use Rattle.dv_grammar.specs.Grammar.{add_both, add_callbacks, chain, pause, unpause, cancel, add_timeout, note, list}
+use Rattle.dv_grammar.specs.Grammar.{add_both, add_callbacks, chain, pause, unpause, cancel, add_timeout}
+use Rattle.dv_grammar.specs.Grammar.{add_timeout_with, note, list}
 use Rattle.dv_grammar.specs.Grammar.{gather, maybe, lock, semaphore, acquire, release, run_with, queue, put, get, later}
 use Rattle.dv_grammar.specs.Grammar.{cancel_call, reset_call, delay_call, loop, stop_loop, cooperate, when_done}
 use Rattle.dv_grammar.specs.Grammar.{pause_task, stop_task}
@@ -333,12 +334,13 @@ comment_of : (v : ℕ) (k : Keyed) (ms : Members) → key_want k (codes "comment
 comment_of v k ms asks h =
     comment_fits v (get_member (codes "comment") ms) (λ e is. here (value (codes "comment") h (ap Some asks) is))
 
-body_only : (v : ℕ) (ms : Members) → AllSuit (question.Shape v) a_body (object ms) → is_keyed_by body_keys ms ≡ true
-body_only v ms h = both (only_of body_keys ms (λ key e is.
+body_only : (v since : ℕ) (ms : Members) → AllSuit (question.Shape v) (want.Keyed (keyed.Body since)) (object ms)
+    → is_keyed_by body_keys ms ≡ true
+body_only v since ms h = both (only_of body_keys ms (λ key e is.
     let P : List ℕ → Type 0 = λ x. (is_key body_keys x ≡ true) in
-    known_key P keyed.Body key (refl, (refl, (refl, tt)))
-    (λ other. absurd (not_other v keyed.Body ms h key e is other))))
-    (comment_of v keyed.Body ms refl h)
+    known_key P (keyed.Body since) key (refl, (refl, (refl, tt)))
+    (λ other. absurd (not_other v (keyed.Body since) ms h key e is other))))
+    (comment_of v (keyed.Body since) ms refl h)
 
 cooperator_only : (v : ℕ) (ms : Members) → AllSuit (question.Shape v) (want.Keyed keyed.Cooperator) (object ms)
     → is_keyed_by cooperator_keys ms ≡ true
@@ -370,7 +372,7 @@ script_only v low ms h = both (only_of (keys_of v) ms (λ key e is.
 
 -- bodies and statements that nest to so many levels read
 record AreRead (v n : ℕ) (table : List Class) : Type 0 where
-  of_body : (d : Data) → IsFine v n a_body d → (b : Body) × IsBody table d b
+  of_body : {since : ℕ} (d : Data) → IsFine v n (want.Keyed (keyed.Body since)) d → (b : Body) × IsBody table d b
   of_statement : (d : Data) → IsFine v n (want.Call call_of.Statement) d → (s : Statement) × IsStatement table d s
 
 bodies_of : (table : List Class) (ds : Items)
@@ -476,7 +478,9 @@ actions v n table read =
     one_text v n table _ (λ d h. h) (λ x. Unpause x) unpause &
     one_text v n table _ (λ d h. h) (λ x. Cancel x) cancel &
     text_and v n table _ (λ d h. h) (IsNumber 0 MOST_DELAY) (number_fine v n 0 MOST_DELAY)
-    (λ x b. AddTimeout x b) add_timeout &
+    (λ x b. AddTimeout x b None) add_timeout &
+    text_and_two v n table _ (λ d h. h) (IsNumber 0 MOST_DELAY) (number_fine v n 0 MOST_DELAY) (IsBody table)
+    read.of_body (λ x b c. AddTimeout x b (Some c)) add_timeout_with &
     one_text v n table _ (λ d h. h) (λ x. Note x) note &
     text_and_two v n table _ (λ d h. h) (IsList IsText) (list_of v n item_of.Deferred IsText (is_text v n))
     (IsList IsListFlag) (list_of v n item_of.ListFlag IsListFlag (λ e g. list_flag_of e (fits_fine g)))
@@ -571,14 +575,14 @@ last_of : (v n : ℕ) (table : List Class) (o : Option Data)
 last_of v n table None h = (Pass, refl)
 last_of v n table (Some d) h = end_fine v n table d (h d refl)
 
-body_of : (v n : ℕ) (table : List Class) → AreRead v n table → (d : Data) → IsFine v (suc n) a_body d
-    → (b : Body) × IsBody table d b
-body_of v n table r (object ms) h =
+body_of : (v n : ℕ) (table : List Class) → AreRead v n table → {since : ℕ} (d : Data)
+    → IsFine v (suc n) (want.Keyed (keyed.Body since)) d → (b : Body) × IsBody table d b
+body_of v n table r {since} (object ms) h =
     let xs = do_of v n table r (get_member (codes "do") ms) (λ e is. under (codes "do") h refl is) in
     let x = last_of v n table (get_member (codes "end") ms) (λ e is. under (codes "end") h refl is) in
-    (record { actions = xs.0; end = x.0 }, body ms xs.0 x.0 (body_only v ms h.suit) xs.1 x.1)
-body_of v n table r (string x) h = (running x, body_by_name x)
-body_of v n table r d h = let fit : fits v a_body d ≡ true = fits_fine h in cc
+    (record { actions = xs.0; end = x.0 }, body ms xs.0 x.0 (body_only v since ms h.suit) xs.1 x.1)
+body_of v n table r {since} (string x) h = (running x, body_by_name x)
+body_of v n table r {since} d h = let fit : fits v (want.Keyed (keyed.Body since)) d ≡ true = fits_fine h in cc
 
 -- the arguments of a word read as those of a statement
 abbrev IsStatementRead : ℕ → ℕ → List Class → List ℕ → List Want → Type 0
@@ -629,10 +633,11 @@ statement_fine v n table r d h =
     (count o.rest) o.wants form o.rest o.args)
     (λ form. cc))
 
-no_body : (v : ℕ) (table : List Class) (d : Data) → IsFine v 0 a_body d → (b : Body) × IsBody table d b
-no_body v table (object ms) h = let deep : depth (object ms) ≤ 0 = h.deep in absurd (omega (arith, deep))
-no_body v table (string x) h = (running x, body_by_name x)
-no_body v table d h = let fit : fits v a_body d ≡ true = fits_fine h in cc
+no_body : (v : ℕ) (table : List Class) {since : ℕ} (d : Data) → IsFine v 0 (want.Keyed (keyed.Body since)) d
+    → (b : Body) × IsBody table d b
+no_body v table {since} (object ms) h = let deep : depth (object ms) ≤ 0 = h.deep in absurd (omega (arith, deep))
+no_body v table {since} (string x) h = (running x, body_by_name x)
+no_body v table {since} d h = let fit : fits v (want.Keyed (keyed.Body since)) d ≡ true = fits_fine h in cc
 
 no_statement : (v : ℕ) (table : List Class) (d : Data) → IsFine v 0 (want.Call call_of.Statement) d
     → (s : Statement) × IsStatement table d s

@@ -21,7 +21,6 @@ use Rattle.dv_questions.specs.Questions.{is_body, is_class, is_pool}
 use Rattle.dv_why.specs.Fits.{is_declared, leaf_suits, name_suits, names_suit, suits}
 use Rattle.dv_why.specs.Wrong.{IsMisnamed, IsBadClass, unknown_class, IsBadPool, unknown_pool, IsBadBody, unknown_body}
 use Rattle.dv_why.specs.Wrong.{AsksFor, a_named_body}
-use Rattle.dv_forms.specs.Wants.{a_body}
 use Rattle.dv_why.proofs.GivenNames.{declared_none}
 
 -- a text stands where a leaf is asked for
@@ -37,15 +36,15 @@ bad_leaf : (q : Question) (l : Leaf) (d : Data) (o : Option (List ℕ)) → as_s
 bad_leaf q l d None is h = cc
 bad_leaf q l d (Some name) is h = record { leaf = l; name = name; asks = inl refl; text = is; bad = h }
 
-bad_body : (q : Question) (d : Data) (o : Option (List ℕ)) → as_str d ≡ o → leaf_suits q a_named_body o ≡ false
-    → IsBadText q a_body d
-bad_body q d None is h = cc
-bad_body q d (Some name) is h =
-    record { leaf = a_named_body; name = name; asks = inr (refl, refl); text = is; bad = h }
+bad_body : (q : Question) (since : ℕ) (d : Data) (o : Option (List ℕ)) → as_str d ≡ o
+    → leaf_suits q a_named_body o ≡ false → IsBadText q (want.Keyed (keyed.Body since)) d
+bad_body q since d None is h = cc
+bad_body q since d (Some name) is h =
+    record { leaf = a_named_body; name = name; asks = inr (since, refl, refl); text = is; bad = h }
 
 bad_text : (q : Question) (w : Want) (d : Data) → names_suit q w d ≡ false → IsBadText q w d
 bad_text q (want.Leaf l) d h = bad_leaf q l d (as_str d) refl h
-bad_text q (want.Keyed keyed.Body) d h = bad_body q d (as_str d) refl h
+bad_text q (want.Keyed (keyed.Body since)) d h = bad_body q since d (as_str d) refl h
 bad_text q _ d h = cc
 
 or_not : (a b : Bool) → (not a || b) ≡ false → (a ≡ true) × (b ≡ false)
@@ -72,7 +71,7 @@ body_is _ h = cc
 asks_itself : (l k : Leaf) (w : Want) → AsksFor l w → l ≡ k → is_body k ≡ false → w ≡ want.Leaf k
 asks_itself l k w (inl asks) is other = asks ∙ ap (λ (x : Leaf). want.Leaf x) is
 asks_itself l k w (inr named) is other =
-    let body : is_body k ≡ true = ap is_body (sym is ∙ named.1) in cc
+    let body : is_body k ≡ true = ap is_body (sym is ∙ named.2) in cc
 
 -- a part that answers badly is a name that hasn't its form
 pub misnamed : (d : Data) (m : Misfit) → suits (question.Names (version_in d)) m.want (view m.found.now) ≡ false

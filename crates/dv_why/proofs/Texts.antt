@@ -12,7 +12,7 @@ use Rattle.dv_forms.specs.declared.want.Object.TheVariants as object_of
 use Rattle.dv_forms.specs.declared.want.Keyed.{Keyed}
 use Rattle.dv_forms.specs.declared.want.Keyed.TheVariants as keyed
 use Rattle.dv_forms.specs.Parts.{call_at}
-use Rattle.dv_forms.specs.Wants.{a_body, item_want, key_want, keys_in, member_want, pair_wants}
+use Rattle.dv_forms.specs.Wants.{item_want, key_want, keys_in, member_want, pair_wants}
 use Rattle.dv_forms.specs.Words.{wants_of}
 use Rattle.dv_questions.specs.Questions.{Asked}
 use Rattle.dv_questions.specs.Asking.{count, if_there, each_item, each_member, one_for_one, arguments_suit, word_suits}
@@ -29,7 +29,8 @@ pub record Tells (q : Question) (a : Asked) : Type 0 where
   pub leaf : (l : Leaf) (x : List ℕ) → suits q (want.Leaf l) (string x) ≡ true → a.of_leaf l x ≡ true
   pub word : (c : Call) (x : List ℕ) → suits q (want.Word c) (string x) ≡ true → a.of_word c x ≡ true
   pub object : (k : Keyed) (d : Data) → suits q (want.Keyed k) d ≡ true → a.of_object k ≡ true
-  pub body : (x : List ℕ) → suits q a_body (string x) ≡ true → a.of_leaf (leaf_of.Found object_of.Body) x ≡ true
+  pub body : (since : ℕ) (x : List ℕ) → suits q (want.Keyed (keyed.Body since)) (string x) ≡ true
+      → a.of_leaf (leaf_of.Found object_of.Body) x ≡ true
 
 -- what each part answers well is good
 abbrev Goods : Question → (Want → Data → Bool) → Type 0
@@ -124,7 +125,7 @@ body_good : {q : Question} {a : Asked} → Tells q a → (o : Keyed) (x : List �
 body_good t (keyed.Script version) x h = refl
 body_good t keyed.Cooperator x h = refl
 body_good t keyed.Failure x h = refl
-body_good t keyed.Body x h = t.body x (here h)
+body_good t (keyed.Body since) x h = t.body since x (here h)
 
 name_good : {q : Question} {a : Asked} → Tells q a → (o : Keyed) (d : Data) → AllSuit q (want.Keyed o) d
     → if_there (name_suits a o) (as_str d) ≡ true

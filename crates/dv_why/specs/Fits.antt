@@ -88,7 +88,7 @@ is_of_class false d = not (is_some (get (codes "index") d)) && not (is_some (get
 abbrev pub has_keys : Keyed → Data → Bool
 has_keys (keyed.Script version) d = is_some (get (codes "version") d) && is_some (get (codes "events") d)
 has_keys keyed.Cooperator d = is_some (get (codes "units") d) && is_some (get (codes "delay") d)
-has_keys keyed.Body d = true
+has_keys (keyed.Body since) d = true
 has_keys keyed.Failure d =
     is_some (get (codes "fail") d) && is_some (get (codes "message") d) && is_of_class (is_first_error d) d
 
@@ -98,7 +98,9 @@ keyed_fits version (keyed.Script v) d = is_some (as_object d) && has_keys (keyed
 keyed_fits version keyed.Cooperator d = is_some (as_object d) && has_keys keyed.Cooperator d
 keyed_fits version keyed.Failure d =
     is_some (as_object d) && object_stands version keyed.Failure && has_keys keyed.Failure d
-keyed_fits version keyed.Body d = is_some (as_object d) || (is_some (as_str d) && nat_le BODIES_SINCE version)
+keyed_fits version (keyed.Body since) d =
+    object_stands version (keyed.Body since)
+    && (is_some (as_object d) || (is_some (as_str d) && nat_le BODIES_SINCE version))
 
 -- what stands at a place has the shape that the place asks for, its parts apart
 abbrev pub fits : ℕ → Want → Data → Bool
@@ -159,7 +161,7 @@ abbrev pub body_name_suits : Question → Keyed → Option (List ℕ) → Bool
 body_name_suits q (keyed.Script version) name = true
 body_name_suits q keyed.Cooperator name = true
 body_name_suits q keyed.Failure name = true
-body_name_suits q keyed.Body name = leaf_suits q (leaf.Found of_object.Body) name
+body_name_suits q (keyed.Body since) name = leaf_suits q (leaf.Found of_object.Body) name
 
 -- whether what stands at a place is what is looked for, where the question is about names
 abbrev pub names_suit : Question → Want → Data → Bool

@@ -20,7 +20,7 @@ use Rattle.dv_forms.specs.declared.want.Want.{Want}
 use Rattle.dv_forms.specs.declared.want.Want.TheVariants as want
 use Rattle.dv_why.specs.declared.misfit.Misfit.{Misfit}
 use Rattle.dv_why.specs.Places.{Part, to_item, to_key, path_of, path_to}
-use Rattle.dv_forms.specs.Wants.{a_body, a_class, a_pool}
+use Rattle.dv_forms.specs.Wants.{a_class, a_pool}
 use Rattle.dv_why.specs.Documents.{version_in, list_in, name_in}
 use Rattle.dv_why.specs.Counts.{count_in, posts_of, ticks_in}
 use Rattle.dv_why.specs.Declaring.{table_before, table_in}
@@ -62,7 +62,7 @@ a_named_body = leaf_of.Found object.Body
 
 -- the place asks for this leaf, or for a body, which may be given by its name
 abbrev pub AsksFor : Leaf → Want → Type 0
-AsksFor leaf w = (w ≡ want.Leaf leaf) ⊎ ((w ≡ a_body) × (leaf ≡ a_named_body))
+AsksFor leaf w = (w ≡ want.Leaf leaf) ⊎ ((since : ℕ) × (w ≡ want.Keyed (keyed.Body since)) × (leaf ≡ a_named_body))
 
 -- BadName: a text stands there, and it hasn't the form of a name that its place asks for in the document's version
 pub record IsMisnamed (d : Data) (m : Misfit) : Type 0 where

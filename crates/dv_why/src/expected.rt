@@ -221,7 +221,11 @@ fn keyed_text(version: u32, keyed: Keyed) -> &'static str {
     match keyed {
         Keyed::Script(_) => "a script: an object",
         Keyed::Cooperator => "a cooperator: an object of the keys units and delay",
-        Keyed::Body => body_text(version),
+        Keyed::Body(since) => if version < since {
+            "nothing: the body of a time-out stands here from version 3 on"
+        } else {
+            body_text(version)
+        },
         Keyed::Failure => failure_text(version),
     }
 }
@@ -266,7 +270,7 @@ fn keys_text(version: u32, keyed: Keyed) -> &'static str {
         } else {
             "no such key: a cooperator has units, delay and comment"
         },
-        Keyed::Body => if version < COMMENTS_SINCE {
+        Keyed::Body(_) => if version < COMMENTS_SINCE {
             "no such key: a body has do and end"
         } else {
             "no such key: a body has do, end and comment"
@@ -397,7 +401,7 @@ fn forms_in(call: Call, json: &Json) -> Option<Shown> {
 /// script of this version has some.
 fn text_expected(version: u32, keyed: Keyed) -> Expected {
     match keyed {
-        Keyed::Body => if version < BODIES_SINCE {
+        Keyed::Body(_) => if version < BODIES_SINCE {
             Expected::Wanted(version, Want::Keyed(keyed))
         } else {
             Expected::Wanted(version, Want::Leaf(Leaf::Found(Object::Body)))
@@ -427,7 +431,7 @@ fn missing_key(keyed: Keyed, json: &Json) -> Option<&'static str> {
     let keys: &'static [&'static str] = match keyed {
         Keyed::Script(_) => &["version", "events"],
         Keyed::Cooperator => &["units", "delay"],
-        Keyed::Body | Keyed::Failure => &[],
+        Keyed::Body(_) | Keyed::Failure => &[],
     };
     for key in keys {
         if json.get(*key).is_none() {

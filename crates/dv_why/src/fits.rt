@@ -109,7 +109,7 @@ fn has_keys(keyed: Keyed, json: &Json) -> bool
     match keyed {
         Keyed::Script(_) => json.get("version").is_some() && json.get("events").is_some(),
         Keyed::Cooperator => json.get("units").is_some() && json.get("delay").is_some(),
-        Keyed::Body => true,
+        Keyed::Body(_) => true,
         Keyed::Failure => {
             json.get("fail").is_some()
                 && json.get("message").is_some()
@@ -129,8 +129,10 @@ fn keyed_fits(version: u32, keyed: Keyed, json: &Json) -> bool
         Keyed::Failure => {
             json.as_object().is_some() && object_stands(version, keyed) && has_keys(keyed, json)
         }
-        Keyed::Body => {
-            json.as_object().is_some() || (json.as_str().is_some() && BODIES_SINCE <= version)
+        Keyed::Body(_) => {
+            object_stands(version, keyed)
+                && (json.as_object().is_some()
+                    || (json.as_str().is_some() && BODIES_SINCE <= version))
         }
     }
 }

@@ -70,7 +70,7 @@ fn body_name_suits(question: Question<'_>, keyed: Keyed, json: &Json) -> bool
 {
     match keyed {
         Keyed::Script(_) | Keyed::Cooperator | Keyed::Failure => true,
-        Keyed::Body => leaf_suits(question, Leaf::Found(Object::Body), json),
+        Keyed::Body(_) => leaf_suits(question, Leaf::Found(Object::Body), json),
     }
 }
 

@@ -6,7 +6,7 @@ ghost use Rattle.dv_script.specs.declared.limits.TheConstants.{MOST_PLACES, MOST
 ghost use Rattle.dv_forms.specs.Parts.{text_at, number_at, bound_at, value_at, class_at};
 ghost use Rattle.dv_forms.specs.Parts.{list_flag_at, gather_flag_at, list_at, one_of, two_of};
 ghost use Rattle.dv_forms.specs.Parts.{three_of, each, if_there};
-ghost use Rattle.dv_grammar.specs.Shape.{action_at, new_deferred_of, loop_of, body_at};
+ghost use Rattle.dv_grammar.specs.Shape.{action_at, new_deferred_of, timeout_of, loop_of, body_at};
 ghost use Rattle.dv_grammar.specs.Shape.{statement_at, with_body};
 
 use crate::reading::body::{bodies, body};
@@ -17,7 +17,9 @@ use dv_forms::arguments::{
     named_bounds, named_delay, named_failure, named_gathering, named_list, named_places,
     named_value, one_small, one_text, two_texts,
 };
-use dv_forms::leaf::{array, boolean, call, five, number, one_or_two, text, three, two};
+use dv_forms::leaf::{
+    array, boolean, call, five, number, one_or_two, text, three, two, two_or_three,
+};
 use dv_forms::stop::Stop;
 use dv_forms::words::ActionWord;
 use dv_script::action::Action;
@@ -75,7 +77,7 @@ pub fn action(alloc: Global, classes: &Classes, levels: u32, json: &Json) -> Res
         ActionWord::Pause => pause(alloc, arguments),
         ActionWord::Unpause => unpause(alloc, arguments),
         ActionWord::Cancel => cancel(alloc, arguments),
-        ActionWord::AddTimeout => add_timeout(alloc, arguments),
+        ActionWord::AddTimeout => add_timeout(alloc, classes, levels, arguments),
         ActionWord::Note => note(alloc, arguments),
         ActionWord::List => list(alloc, arguments),
         ActionWord::Gather => gather(alloc, arguments),
@@ -137,12 +139,31 @@ fn deferred(
 {
     let (name, json) = one_or_two(arguments)?;
     let name = text(alloc, name)?;
-    let canceller = canceller(alloc, classes, levels, json)?;
+    let canceller = maybe_body(alloc, classes, levels, json)?;
     Ok(Action::Deferred(name, canceller))
 }
 
 #[cycle(shape)]
-fn canceller(
+#[inline(never)]
+#[tactic(auto, unfolding(crate::specs::Shape::timeout_of))]
+fn add_timeout(
+    alloc: Global,
+    classes: &Classes,
+    levels: u32,
+    arguments: &[Json],
+) -> Result<Action, Stop>
+    ensures { Reads result (timeout_of (body_at classes.now levels) (items_view arguments.now)) }
+{
+    let (name, delay, json) = two_or_three(arguments)?;
+    let name = text(alloc, name)?;
+    let delay = number(delay, 0, MOST_DELAY)?;
+    let body = maybe_body(alloc, classes, levels, json)?;
+    Ok(Action::AddTimeout(name, delay, body))
+}
+
+/// A body that may be left out.
+#[cycle(shape)]
+fn maybe_body(
     alloc: Global,
     classes: &Classes,
     levels: u32,
@@ -330,15 +351,6 @@ fn cancel(alloc: Global, arguments: &[Json]) -> Result<Action, Stop>
     ensures { Reads result (one_of text_at Action.Cancel (items_view arguments.now)) }
 {
     Ok(Action::Cancel(one_text(alloc, arguments)?))
-}
-
-#[inline(never)]
-fn add_timeout(alloc: Global, arguments: &[Json]) -> Result<Action, Stop>
-    ensures { Reads result
-        (two_of text_at (number_at 0 MOST_DELAY) Action.AddTimeout (items_view arguments.now)) }
-{
-    let (name, delay) = named_delay(alloc, arguments)?;
-    Ok(Action::AddTimeout(name, delay))
 }
 
 #[inline(never)]
