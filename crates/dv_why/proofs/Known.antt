@@ -362,7 +362,7 @@ shape_asked v w same =
       leaf = λ l x h. rw (← same) (leaf_stands v l x h);
       word = λ c x h. rw (← same) h;
       object = λ k d h. rw (← same) (keyed_stands v k d h);
-      body = λ since x h. rw (← same) h;
+      body = λ since x h. rw (← same) (and_parts (nat_le since v) (nat_le BODIES_SINCE v) h).1;
     }
 
 -- refused for its shape, a part is found that doesn't fit

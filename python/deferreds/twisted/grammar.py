@@ -197,16 +197,26 @@ def _kinds(row: Word) -> Arguments:
     return tuple(map(kind_of, row.arguments))
 
 
+def _since(*places: str) -> Dict[Tuple[str, int], int]:
+    """The first version that has each form of a word of these places: by the word, and how many arguments the form has."""
+    return {(row.word, len(row.arguments)): row.since for place in places for row in LANGUAGE.at(place)}
+
+
 ACTIONS = _table("action")
-#: the first version that has an action, or an end
-SINCE: Dict[str, int] = {row.word: row.since for place in ("action", "end") for row in LANGUAGE.at(place)}
+#: the first version that has a form of an action
+ACTIONS_SINCE = _since("action")
 ENDS = _table("end")
 #: how an inline body may end
 INLINE_ENDS = _table("leaving")
 STATEMENTS = _table("statement")
 #: the first version that has a statement
-STATEMENTS_SINCE: Dict[str, int] = {row.word: row.since for row in LANGUAGE.at("statement")}
+STATEMENTS_SINCE = _since("statement")
 WORKS = _table("work")
+#: the first version that has some form of an action or an end
+SINCE: Dict[str, int] = {
+    word: min(since for (other, _), since in _since("action", "end").items() if other == word)
+    for word in (*ACTIONS, *ENDS)
+}
 
 #: the levels that a port can begin with, in order; each has the actions of those before it
 _LEVELS: Tuple[str, ...] = (

@@ -168,10 +168,15 @@ class Scripts:
             word = self._random.choices(self._words, self._weights)[0]
         if word == "unpause" and not self._one_in(12):
             return self._unpause(depth)
-        action = [word, *self._arguments(grammar.ACTIONS[word], depth)]
+        action = [word, *self._arguments(self._forms(word), depth)]
         if word == "pause":
             self._paused.append(action[1])
         return action
+
+    def _forms(self, word: str) -> List[grammar.Arguments]:
+        """The forms of an action that the version of the script has."""
+        since = grammar.ACTIONS_SINCE
+        return [form for form in grammar.ACTIONS[word] if since[word, len(form)] <= self._version_of]
 
     def _unpause(self, depth: int) -> List[Any]:
         """An `unpause` of what was paused before, or else a `pause`."""

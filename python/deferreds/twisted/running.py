@@ -456,7 +456,11 @@ class Player:
 
     def _add_timeout(self, action: List[Any], deferred: Deferred[Any]) -> None:
         clock: Any = self.clock
-        deferred.addTimeout(action[2], clock)
+        if len(action) == 3:
+            deferred.addTimeout(action[2], clock)
+            return
+        handle = self._side(action[3], deferred)
+        deferred.addTimeout(action[2], clock, lambda result, timeout: handle(result))
 
     def _list(self, action: List[Any], *children: Deferred[Any]) -> None:
         self._naming(action[1])

@@ -19,7 +19,7 @@ _NAME = re.compile(rf"[A-Za-z0-9_][A-Za-z0-9_]{{0,{_REST}}}", re.ASCII)
 _MARKED_NAME = re.compile(rf"[A-Za-z0-9_][A-Za-z0-9_.:-]{{0,{_REST}}}", re.ASCII)
 
 #: the first versions of words that every version has
-_ALWAYS: Mapping[str, int] = {}
+_ALWAYS: Mapping[Tuple[str, int], int] = {}
 
 #: a refusal: its number and its name
 Reason = Tuple[int, str]
@@ -238,14 +238,14 @@ class _Shape:
             self._number(event[1], grammar.ADVANCES if word == "advance" else grammar.DRAINS)
             self.found.advanced += event[1] if word == "advance" else 0
         else:
-            self._said(event, grammar.ACTIONS, grammar.SINCE)
+            self._said(event, grammar.ACTIONS, grammar.ACTIONS_SINCE)
 
     def _said(
-        self, said: Any, table: Dict[str, List[grammar.Arguments]], since: Mapping[str, int] = _ALWAYS
+        self, said: Any, table: Dict[str, List[grammar.Arguments]], since: Mapping[Tuple[str, int], int] = _ALWAYS
     ) -> None:
-        """An array of a word of the table, which a version may be the first to have, and what it takes."""
+        """An array of a word of the table, a form of which a version may be the first to have, and what it takes."""
         word = self._word(said)
-        if since.get(word, self._version) > self._version:
+        if since.get((word, len(said) - 1), self._version) > self._version:
             self._refuse(said)
         for arguments in table.get(word, []):
             if len(arguments) == len(said) - 1:
@@ -297,7 +297,7 @@ class _Shape:
             if value is not None:
                 self._number(value, grammar.BOUNDS)
         elif kind is Kind.ACTION:
-            self._said(value, grammar.ACTIONS, grammar.SINCE)
+            self._said(value, grammar.ACTIONS, grammar.ACTIONS_SINCE)
         elif kind is Kind.END:
             self._said(value, grammar.INLINE_ENDS)
         elif kind is Kind.WORK:
@@ -316,7 +316,7 @@ class _Shape:
             return
         self._keys(body, set(), {"do", "end"} | self._comment)
         for action in self._array(body.get("do", [])):
-            self._said(action, grammar.ACTIONS, grammar.SINCE)
+            self._said(action, grammar.ACTIONS, grammar.ACTIONS_SINCE)
         if "end" in body:
             self._said(body["end"], grammar.ENDS)
 

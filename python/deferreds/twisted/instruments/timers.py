@@ -77,11 +77,29 @@ def _instrumented_add_timeout(
         return _add_timeout(self, timeout, clock, onTimeoutCancel)
     record = watcher.record(self)
     if record.hidden_of is not None:
-        return _add_timeout(self, timeout, clock)
+        return _add_timeout(self, timeout, clock, onTimeoutCancel)
     action = Action(["addTimeout", record, Time(timeout)])
+    handle = onTimeoutCancel
+    if onTimeoutCancel is not None:
+        body = watcher.new_body("callback")
+        action.append(body)
+        handle = _handling(watcher, record, body, onTimeoutCancel)
     timing: Any = _Timing(watcher, record, clock, action)
-    given: Deferred[Any] = watcher.act(action, _add_timeout, self, timeout, timing)
+    given: Deferred[Any] = watcher.act(action, _add_timeout, self, timeout, timing, handle)
     return given
+
+
+def _handling(watcher: Observer, record: Record, body: Any, on_cancel: OnCancel) -> OnCancel:
+    """What the program does with the result of a Deferred whose time is over, as a body."""
+
+    def handle(result: object, timeout: float) -> object:
+        if observer_of("timer") is not watcher:
+            return on_cancel(result, timeout)
+        given = (result, record.outcome)
+        returned: object = watcher.perform(body, "callback", given, on_cancel, (result, timeout))
+        return returned
+
+    return handle
 
 
 def _can_be_told(
@@ -89,7 +107,7 @@ def _can_be_told(
 ) -> bool:
     """Whether the language has such a timer."""
     return (
-        on_cancel is None
+        (on_cancel is None or callable(on_cancel))
         and "clock" in watcher.kinds
         and is_delay(timeout)
         and (isinstance(clock, task.Clock) or is_real(clock))

@@ -246,9 +246,9 @@ class Said:
     def _version(self, script: Dict[str, Any]) -> int:
         """The least version that has the words of a script."""
         keys = [key.since for key in LANGUAGE.keys_of("script") if key.key in script]
-        words = {action[0] for _, action in actions_of(script, self.acted)}
+        forms = {(action[0], len(action) - 1) for _, action in actions_of(script, self.acted)}
         failures = [grammar.FAILURES_SINCE] if _has_failures(script["events"]) else []
-        return max([*keys, *failures, *(grammar.SINCE.get(word, 1) for word in words)])
+        return max([*keys, *failures, *(grammar.ACTIONS_SINCE.get(form, 1) for form in forms)])
 
     def _cannot(self, reason: str, kind: Optional[str] = None, place: str = "") -> CannotSay:
         self._problem(reason, kind, place)
