@@ -7,7 +7,7 @@ ghost use Rattle.dv_run.specs.Words.{HasFewWorkers};
 ghost use Rattle.dv_script.specs.declared.limits.TheConstants.{MOST_WORKERS};
 
 use crate::exit::Exit;
-use dv_forms::stop::Stop;
+use dv_forms::shape_fault::ShapeFault;
 use dv_jobs::gate::PlainGate;
 use dv_journal::sink::Sink;
 use dv_orders::reading::read_batches;
@@ -44,8 +44,8 @@ where
         ))),
         Task::Replay(form, workers) => match read_batches(rt.alloc(), word) {
             Ok(batches) => replay_as(rt, form, workers, batches.as_slice(), reader, writer),
-            Err(Stop::BadShape) => Exit::wrong_batches(),
-            Err(Stop::OutOfMemory) => Exit::plain(exit_of(&Err(RunFault::OutOfMemory))),
+            Err(ShapeFault::BadShape) => Exit::wrong_batches(),
+            Err(ShapeFault::OutOfMemory) => Exit::plain(exit_of(&Err(RunFault::OutOfMemory))),
         },
         Task::Survey(form, chosen) => {
             match survey(

@@ -20,7 +20,7 @@ use Rattle.dv_clock.specs.declared.call.CallState.TheVariants.{Waiting, Called, 
 use Rattle.dv_clock.specs.declared.delay_from.DelayFrom.{DelayFrom}
 use Rattle.dv_clock.specs.declared.due.Due.{Due}
 use Rattle.dv_journal.specs.declared.error.Fault.TheVariants as fault
-use Rattle.dv_clock.specs.Due.{scheduling, coming_due}
+use Rattle.dv_clock.specs.Due.{scheduling, entry_when_due}
 use Rattle.dv_clock.proofs.CallsLemmas.{placed_there, others_stay}
 use Rattle.dv_clock.specs.declared.due.Due.TheVariants as kind
 use Rattle.dv_clock.proofs.NextLemmas.{Answers, IsFirst, first_is_first}
@@ -79,7 +79,7 @@ due_keeps : (P : Clock → Type 0) (s : State Clock) (o : Option Upcoming) → P
     → ((n : ℕ) (state : CallState) → P (ended n state s.0)) → P (due_found o s).1.0
 due_keeps P s None h k = h
 due_keeps P s (Some next) h k =
-    told P (coming_due next.what) (Some next.what) (ended next.number Called s.0) s h (k next.number Called)
+    told P (entry_when_due next.what) (Some next.what) (ended next.number Called s.0) s h (k next.number Called)
 
 uncall_keeps : (P : Clock → Type 0) (s : State Clock) (n : ℕ) (name : List ℕ) (b : Bool) → P s.0
     → P (ended n Cancelled s.0) → P (let t : Cancelling =

@@ -11,7 +11,7 @@ use Rattle.dv_journal.specs.Journal.{fits, with_entry}
 use Rattle.dv_journal.specs.declared.entry.Entry.TheVariants as entry
 use Rattle.dv_journal.specs.declared.error.Stop.{Stop}
 use Rattle.dv_journal.specs.declared.error.Stop.TheVariants as stop
-use Rattle.dv_clock.specs.Due.{scheduling, coming_due}
+use Rattle.dv_clock.specs.Due.{scheduling, entry_when_due}
 use Rattle.dv_clock.specs.LoopingCall.{loop_next}
 use Rattle.dv_journal.specs.Telling.{State, Told, untold, telling}
 use Rattle.dv_clock.specs.declared.call.Call.{Call}
@@ -130,7 +130,7 @@ advance_to time s = telling (entry.Advance time) tt (record s.0 { time = time })
 -- the call that runs next has been called from now on, and what it is, is returned
 abbrev pub due_found : Option Upcoming → State Clock → Told (Option Due) Clock
 due_found None s = untold None s
-due_found (Some call) s = telling (coming_due call.what) (Some call.what) (ended call.number Called s.0) s
+due_found (Some call) s = telling (entry_when_due call.what) (Some call.what) (ended call.number Called s.0) s
 
 abbrev pub due : State Clock → Told (Option Due) Clock
 due s = due_found (next_call s.0) s

@@ -13,10 +13,10 @@ scheduling Tick time = entry.LaterTick time
 scheduling (Delivery job key) time = entry.LaterJob job time
 scheduling (Timeout d) time = entry.LaterTimeout d time
 
--- what is logged when its time has come
-abbrev pub coming_due : Due → Entry
-coming_due (Call name key) = entry.Call name
-coming_due (Turn name key) = entry.Turn name
-coming_due Tick = entry.Tick
-coming_due (Delivery job key) = entry.Deliver job
-coming_due (Timeout d) = entry.Timeout d
+-- the entry that is logged when it is due
+abbrev pub entry_when_due : Due → Entry
+entry_when_due (Call name key) = entry.Call name
+entry_when_due (Turn name key) = entry.Turn name
+entry_when_due Tick = entry.Tick
+entry_when_due (Delivery job key) = entry.Deliver job
+entry_when_due (Timeout d) = entry.Timeout d

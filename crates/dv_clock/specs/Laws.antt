@@ -3,7 +3,7 @@ use Rattle.std.specs.Prelude.{◌≡◌, ◌≢◌, ◌≤◌, ◌<◌, ℕ, tru
 use Rattle.dv_journal.specs.Journal.{Written, fits}
 use Rattle.dv_clock.specs.Clock.{Clock, Upcoming, is_waiting, next_call, scheduled_at, advance_to, due, cancel, reset}
 use Rattle.dv_clock.specs.Clock.{ended}
-use Rattle.dv_clock.specs.Due.{coming_due}
+use Rattle.dv_clock.specs.Due.{entry_when_due}
 use Rattle.dv_clock.specs.LoopingCall.{loop_next, IsNextTurn}
 use Rattle.dv_clock.specs.Turns.{Turns, turn_of, left}
 use Rattle.dv_clock.specs.declared.call.Call.{Call}
@@ -55,7 +55,8 @@ EndedCallsNeverRun =
 -- a call that runs never runs again
 abbrev pub CallsRunOnceAtMost : Type 0
 CallsRunOnceAtMost =
-    (c d : Clock) (j : Written) (once again : Upcoming) → next_call c ≡ Some once → fits j (coming_due once.what) ≡ true
+    (c d : Clock) (j : Written) (once again : Upcoming) → next_call c ≡ Some once
+    → fits j (entry_when_due once.what) ≡ true
     → Becomes (due (c, j)).1.0 d → next_call d ≡ Some again → again.number ≢ once.number
 
 -- a loop's next turn is at the first time after now that is a whole number of intervals after its start
@@ -63,6 +64,6 @@ abbrev pub TheNextTurnIsTheFirstLater : Type 0
 TheNextTurnIsTheFirstLater =
     (start interval now : ℕ) → start ≤ now → 0 < interval → IsNextTurn start interval now (loop_next start interval now)
 
--- when a task leaves, it is still the turn of whoever's turn it was, if that is another
+-- when a task leaves, it is still the turn of the task whose turn it was, if that is another
 abbrev pub NobodyIsSkipped : Type 0
 NobodyIsSkipped = (t : Turns) (task u : ℕ) → turn_of t ≡ Some u → u ≢ task → turn_of (left task t) ≡ Some u

@@ -5,7 +5,7 @@ use crate::due::Due;
 pub enum CallState {
     /// It waits for its time.
     Waiting(Due),
-    /// Its time has come (Twisted: `called`).
+    /// It was due, and ran (Twisted: `called`).
     Called,
     /// It was cancelled before that (Twisted: `cancelled`).
     Cancelled,

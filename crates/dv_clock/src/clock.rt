@@ -217,8 +217,8 @@ impl Clock {
         self.end(id.number(), CallState::Dropped).is_some()
     }
 
-    /// Lets time go on to `time`, in ticks from the beginning; what is due by then is then given by
-    /// `due`, at this time, one after the other (Twisted: `Clock.advance`).
+    /// Advances time to `time`, in ticks from the beginning. `due` then returns what is due by
+    /// then, one after the other (Twisted: `Clock.advance`).
     pub fn advance_to(&mut self, journal: &mut Journal, time: u64) -> Result<(), Stop>
         requires onward { self.old.time ≤ time }
         requires early { time ≤ MOST_TICKS }
@@ -242,7 +242,7 @@ impl Clock {
         if !journal.fits_plain() {
             return Err(Stop::Limit);
         }
-        let entry = what.coming_due(self.alloc)?;
+        let entry = what.entry_when_due(self.alloc)?;
         journal.write(entry)?;
         Ok(self.end(number, CallState::Called))
     }
@@ -308,7 +308,7 @@ impl Clock {
         }
     }
 
-    /// A call waits no longer, and what it is comes back; None where it didn't wait.
+    /// A call waits no longer. Returns what it is; None if it didn't wait.
     fn end(&mut self, number: usize, state: CallState) -> Option<Due>
         requires over { is_waiting state ≡ false }
         ensures what { result ≡ what_of number self.old.calls }
@@ -348,7 +348,7 @@ impl Clock {
 
 ghost use Rattle.dv_clock.specs.Clock.{what_in};
 
-/// The state of a call is replaced, and what it is comes back where it waited.
+/// The state of a call is replaced. Returns what it is, if it waited.
 fn take_what(call: &mut Call, state: CallState) -> Option<Due>
     ensures what { result ≡ what_in call.old.state }
     ensures rest { call.new ≡ record call.old { state = state } }

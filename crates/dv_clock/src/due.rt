@@ -1,5 +1,5 @@
 ghost use Rattle.std.specs.Prelude.{◌≡◌, IfOk};
-ghost use Rattle.dv_clock.specs.Due.{scheduling, coming_due};
+ghost use Rattle.dv_clock.specs.Due.{scheduling, entry_when_due};
 
 use dv_journal::deferred_id::DeferredId;
 use dv_journal::entry::Entry;
@@ -37,9 +37,9 @@ impl Due {
         }
     }
 
-    /// What the journal logs when its time has come.
-    pub fn coming_due(&self, alloc: Global) -> Result<Entry, AllocError>
-        ensures { IfOk result (λ entry. entry ≡ coming_due self.now) }
+    /// The entry that is logged when it is due.
+    pub fn entry_when_due(&self, alloc: Global) -> Result<Entry, AllocError>
+        ensures { IfOk result (λ entry. entry ≡ entry_when_due self.now) }
     {
         match self {
             Due::Call(name, _) => Ok(Entry::Call(name.copy(alloc)?)),

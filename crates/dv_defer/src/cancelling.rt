@@ -17,7 +17,7 @@ use dv_objects::reached::Reached;
 use dv_objects::refusals::cancelled;
 use std::alloc::AllocError;
 
-/// Cancels a Deferred: logs it, and begins with whom it reaches (Twisted: `Deferred.cancel`).
+/// Cancels a Deferred: logs that, and starts with what it reaches (Twisted: `Deferred.cancel`).
 pub fn cancel<'s>(turn: &mut Turn<'s>, id: DeferredId) -> Result<(), AllocError>
     requires done { turn.old.performed ≡ Done }
     ensures { OnOk result (turn.new ≡ after (page.cancel id) turn.old) }
@@ -25,7 +25,7 @@ pub fn cancel<'s>(turn: &mut Turn<'s>, id: DeferredId) -> Result<(), AllocError>
     match turn.world.cancel(id)? {
         Reached::Nothing => Ok(()),
         Reached::Fire(end) => {
-            turn.world.fire_guarded(end)?;
+            turn.world.fire_then_swallow(end)?;
             turn.stack.push(Frame::Settle(end))
         }
         Reached::Run(end, canceller) => {
@@ -84,12 +84,12 @@ fn cancel_awaited(turn: &mut Turn<'_>, inline: InlineId) -> Result<(), AllocErro
 pub fn end_canceller<'s>(
     turn: &mut Turn<'s>,
     id: DeferredId,
-    came: Performed<'s>,
+    performed: Performed<'s>,
 ) -> Result<(), AllocError>
     requires done { turn.old.performed ≡ Done }
-    ensures { OnOk result (turn.new ≡ after (page.after_canceller id came.entry) turn.old) }
+    ensures { OnOk result (turn.new ≡ after (page.after_canceller id performed.entry) turn.old) }
 {
-    match came.into_failure(turn.alloc)? {
+    match performed.into_failure(turn.alloc)? {
         Some(failure) => {
             turn.performed = Performed::Raised(failure);
             Ok(())

@@ -86,14 +86,14 @@ pub fn fire<'s>(
         drop(given);
         return Ok(());
     };
-    let kept = kept(turn.alloc, &turn.world, id, given)?;
+    let kept = value_to_fire_with(turn.alloc, &turn.world, id, given)?;
     fire_and_settle(turn, id, kept)
 }
 
-/// The value that a Deferred is to be fired with; null where the firing is refused or swallowed,
-/// since no value is kept then.
+/// The value that a Deferred is to be fired with; null if the firing is refused or swallowed, since
+/// no value is kept then.
 #[tactic(auto, using(crate::proofs::FireLemmas::fires_alike))]
-fn kept<'s>(
+fn value_to_fire_with<'s>(
     alloc: Global,
     world: &World<'s>,
     id: DeferredId,

@@ -24,7 +24,8 @@ none_fired d (Some v) u h = rw h refl
 
 pub fired_lists_stay : FiredListsStay
 fired_lists_stay child input w h =
-    let came = world.came_to child.list child.place input w in rw (none_fired child.of came.0.fire came.1 h) refl
+    let after = world.child_fired_in child.list child.place input w in
+    rw (none_fired child.of after.0.fire after.1 h) refl
 
 pub turns_follow : TurnsFollow
 turns_follow l w x is runs = rw (is, runs) refl

@@ -5,7 +5,7 @@ use Rattle.std.specs.Option.{option_map, option_map_or}
 use Rattle.dv_clock.specs.Clock.{Upcoming, due_at, first_from, first_of, upcoming}
 use Rattle.dv_clock.specs.declared.call.Call.{Call}
 use Rattle.dv_definition.specs.Conditions.{CallsComeInTurn, CancelsReach, EndsLeave, FailuresAreThrown, ListsFire}
-use Rattle.dv_definition.specs.Definition.{all_came, caught_by, earlier, end_of_waiting, first_call, reached_by}
+use Rattle.dv_definition.specs.Definition.{all_fired, caught_by, earlier, end_of_waiting, first_call, reached_by}
 use Rattle.dv_definition.specs.Definition.{second_of, still_to_run}
 use Rattle.dv_definition.specs.Rule.{found}
 use Rattle.dv_inline.specs.Position.{Position, ahead, class_caught, left_to, second_for, thrown_to}
@@ -70,10 +70,10 @@ answer_of_if : {A B : Type 0} (b : Bool) (x y : A × B) → (if b then x else y)
 answer_of_if true x y = refl
 answer_of_if false x y = refl
 
-last_same : (g : Gather) → (due_at_last g).0 ≡ all_came g.places
+last_same : (g : Gather) → (due_at_last g).0 ≡ all_fired g.places
 last_same g = answer_of_if (nat_eq (count_missing g.places) 0) _ _
 
-kept_same : (i : ℕ) (v : Value) (g : Gather) → (due_when_kept i v g).0 ≡ all_came (slice_set g.places i (kept_of v))
+kept_same : (i : ℕ) (v : Value) (g : Gather) → (due_when_kept i v g).0 ≡ all_fired (slice_set g.places i (kept_of v))
 kept_same i v g = last_same (record g { places = slice_set g.places i (kept_of v) })
 
 none_if : (b : Bool) (n : Option Value) (f : Failure → Option Value) → n ≡ found (if b then None else None) n f
@@ -87,12 +87,12 @@ some_if false failure n f = refl
 
 errback_same : (i : ℕ) (o : Option Failure) (v : Value) (g : Gather)
     → (due_by_failure i o v g).0 ≡ found (if g.flags.fire_on_one_errback then o
-    else None) (all_came (slice_set g.places i (kept_of v))) (λ failure. Some (first_failure i failure))
+    else None) (all_fired (slice_set g.places i (kept_of v))) (λ failure. Some (first_failure i failure))
 errback_same i None v g = kept_same i v g ∙ none_if g.flags.fire_on_one_errback _ _
 errback_same i (Some failure) v g =
     answer_of_if g.flags.fire_on_one_errback (Some (first_failure i failure), without_places g) (due_when_kept i v g)
     ∙ ap (λ n. if g.flags.fire_on_one_errback then Some (first_failure i failure) else n) (kept_same i v g)
-    ∙ some_if g.flags.fire_on_one_errback failure (all_came (slice_set g.places i (kept_of v)))
+    ∙ some_if g.flags.fire_on_one_errback failure (all_fired (slice_set g.places i (kept_of v)))
     (λ f. Some (first_failure i f))
 
 first_of_three : (a b : Bool) (x y z : Option Value × Gather) (n : Option Value) → z.0 ≡ n

@@ -46,7 +46,7 @@ CancelsReachChildren =
     (c e : ℕ) (w : World) → run (cancel_reached (reached.Children (c ∷ e ∷ []))) w
     ≡ (frame.Cancel c ∷ frame.Tell ∷ frame.Cancel e ∷ frame.Tell ∷ [], Done, w)
 
--- where no token is free, who asks for one waits, and nobody is fired
+-- if no token is free, a Deferred that asks for one waits, and none is fired
 abbrev pub TokensAreWaitedFor : Type 0
 TokensAreWaitedFor =
     (name : List ℕ) (l : ℕ) (w : World) (s : Semaphore) → (let made = make (Some name) (Some (Token l)) w in
@@ -65,7 +65,7 @@ FailuresAreKept =
     (name : List ℕ) (failure : Failure) (w : World) → run (deferred_of (Named name) (Raised failure)) w
     ≡ run (Fires (length w.records) (Fault failure) after_which []) (make (Some name) None w)
 
--- who asks for a token to perform a body with gets the pair that performs it
+-- a Deferred that asks for a token to run a body with gets the pair that runs it
 abbrev pub BodiesWaitForTokens : Type 0
 BodiesWaitForTokens =
     (name : List ℕ) (l : ℕ) (body : Body) (w : World) → (let asked = run (acquire name l) w in
@@ -75,8 +75,8 @@ BodiesWaitForTokens =
 abbrev pub FiredListsStay : Type 0
 FiredListsStay =
     (child : Child) (input : Value) (w : World)
-    → (let came = world.came_to child.list child.place input w in is_unfired child.of came.1 ≡ false
-    → run (report child input) w ≡ (frame.Give (Gave came.0.pass) ∷ [], Done, came.1))
+    → (let after = world.child_fired_in child.list child.place input w in is_unfired child.of after.1 ≡ false
+    → run (report child input) w ≡ (frame.Give (Gave after.0.pass) ∷ [], Done, after.1))
 
 -- a firing ends the timer
 abbrev pub FiringsEndTimers : Type 0
@@ -125,7 +125,7 @@ BodiesGoOn =
     → (let first = run (act itself action) w in run (perform_rest itself (action ∷ rest) end input) w
     ≡ (first.0 ++ goes_through itself rest end input, first.1, first.2))
 
--- who got a value by a hand-over is settled before who gave it
+-- the Deferred that got a value by a hand-over is settled before the one that gave it
 abbrev pub ReceiversComeFirst : Type 0
 ReceiversComeFirst =
     (d c : ℕ) (w : World) → run (settle_by d (Handed c)) w ≡ (frame.Settle c ∷ frame.Settle d ∷ [], Done, w)

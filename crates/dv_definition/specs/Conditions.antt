@@ -26,7 +26,7 @@ ItemsAreUsedWhenTheyMay = (r : Record Pair Canceller) → is_ready r ≡ may_be_
 abbrev pub DeferredsWaitWhenTheyHaveTo : Type 0
 DeferredsWaitWhenTheyHaveTo = (d e : ℕ) (r : Record Pair Canceller) → is_pending d e r ≡ has_to_wait d e r
 
--- a cancel reaches whom it is to reach
+-- a cancel reaches what it is to reach
 abbrev pub CancelsReach : Type 0
 CancelsReach = (d : ℕ) (w : World) → reached_from d w.records ≡ whom_reaches d w
 
@@ -34,7 +34,7 @@ CancelsReach = (d : ℕ) (w : World) → reached_from d w.records ≡ whom_reach
 abbrev pub ListsFire : Type 0
 ListsFire = (i : ℕ) (v : Value) (g : Gather) → (due i v g).0 ≡ list_fires_with i v g
 
--- the call that comes next is the one that runs
+-- the next call is the one that runs
 abbrev pub CallsComeInTurn : Type 0
 CallsComeInTurn = (w : World) → next_call w.objects.clock ≡ next_due w
 

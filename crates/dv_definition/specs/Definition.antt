@@ -16,13 +16,13 @@ use Rattle.dv_clock.specs.declared.due.Due.TheVariants as what
 use Rattle.dv_definition.specs.Flags.{list_flags, gather_flags}
 use Rattle.dv_definition.specs.Rule.{Rule, Ends, By, If, Finds, Asks, Fires, Unpauses, settles, found, ◌next◌}
 use Rattle.dv_definition.specs.Rule.{◌after_which◌}
-use Rattle.dv_definition.specs.Steps.{Step, Make, Name, Append, FireGuarded, Pause, Note, TellTurn, NewLock}
+use Rattle.dv_definition.specs.Steps.{Step, Make, Name, Append, FireThenSwallow, Pause, Note, TellTurn, NewLock}
 use Rattle.dv_definition.specs.Steps.{NewSemaphore, Ask, Release, Forget, NewQueue, Withdraw, NewList, StartTimer}
 use Rattle.dv_definition.specs.Steps.{EndTimer, CallLater, NewLoop, ScheduleTurn, StopLoop, EndLoop, NewTask, AwaitTask}
-use Rattle.dv_definition.specs.Steps.{PauseTask, ResumeTask, HoldTask, SetUnits, KeepTick, BeginTick, EndTick, AddInline}
-use Rattle.dv_definition.specs.Steps.{BeginBody, BeginAwait, Submit, DeliverLater, Put, PutDeferred, ComeDue, Moves, Cancel}
-use Rattle.dv_definition.specs.Steps.{PutInto, GetFrom, CameTo, CancelCall, ResetCall, TakeStep, EndTask}
-use Rattle.dv_definition.specs.Steps.{ComeToInline, EndAwait}
+use Rattle.dv_definition.specs.Steps.{PauseTask, ResumeTask, HoldTask, SetUnits, KeepTick, BeginTick, EndTick}
+use Rattle.dv_definition.specs.Steps.{AddInline, BeginBody, BeginAwait, Submit, DeliverLater, Put, PutDeferred, TakeDue}
+use Rattle.dv_definition.specs.Steps.{Moves, Cancel, PutInto, GetFrom, ChildFired, CancelCall, ResetCall, TakeStep}
+use Rattle.dv_definition.specs.Steps.{EndTask, ResumeInline, EndAwait}
 use Rattle.dv_definition.specs.Words.{finished, give, raise, give_end, ◌and◌, calls, places, performs, goes_through}
 use Rattle.dv_definition.specs.Words.{cancels, ends_canceller, makes_deferred, adds, gives, notifies, ends_step}
 use Rattle.dv_definition.specs.Words.{takes_steps, goes_on, goes_on_with_answer, awaits, tells_failure, runs_due}
@@ -34,17 +34,17 @@ use Rattle.dv_definition.specs.Words.{deferred_or, on_deferred, on_all, on_lock,
 use Rattle.dv_frames.specs.declared.frame.Frame.{Frame}
 use Rattle.dv_frames.specs.declared.frame.Purpose.{Purpose}
 use Rattle.dv_frames.specs.declared.frame.Purpose.TheVariants.{Named, Holding, Turning}
-use Rattle.dv_inline.specs.Position.{Position, started, answered, come, want_at}
+use Rattle.dv_inline.specs.Position.{Position, started, answered, run_to_request, request_at}
 use Rattle.dv_inline.specs.declared.open.Inside.{Inside}
 use Rattle.dv_inline.specs.declared.open.Inside.TheVariants as inside
 use Rattle.dv_inline.specs.declared.open.Onward.TheVariants as onward
 use Rattle.dv_inline.specs.declared.open.Open.{Open}
-use Rattle.dv_inline.specs.declared.want.Want.{Want}
-use Rattle.dv_inline.specs.declared.want.Want.TheVariants.{Do, Await}
+use Rattle.dv_inline.specs.declared.request.Request.{Request}
+use Rattle.dv_inline.specs.declared.request.Request.TheVariants.{Do, Await}
 use Rattle.dv_jobs.specs.Works.{value_of as work_value}
 use Rattle.dv_objects.specs.Cooperator.{result_of, how_ended}
 use Rattle.dv_objects.specs.Looping.{is_scheduled}
-use Rattle.dv_objects.specs.Pair.{Pair, callback, errback, both, chain, coming, results, holding, releasing, turning}
+use Rattle.dv_objects.specs.Pair.{Pair, callback, errback, both, chain, reporting, results, holding, releasing, turning}
 use Rattle.dv_objects.specs.Pair.{resuming, continuing, watching, ending, side_for}
 use Rattle.dv_objects.specs.Performed.{failed_with}
 use Rattle.dv_objects.specs.Refusals.{cancelled, not_held, overflow, underflow, not_gathered}
@@ -117,7 +117,7 @@ unfoldable pub end_of_waiting : ℕ → ℕ → World → Option ℕ
 end_of_waiting zero d w = None
 end_of_waiting (suc most) d w = found (waited_for d w) (Some d) λ e. end_of_waiting most e w
 
--- whom a cancel reaches at an unfired Deferred, which its canceller decides
+-- what a cancel reaches at an unfired Deferred, which its canceller decides
 abbrev pub reached_by : ℕ → Option Canceller → Reached
 reached_by d None = reached.Fire d
 reached_by d (Some (canceller.Body body)) = reached.Run d body
@@ -126,34 +126,34 @@ reached_by d (Some (canceller.Item k)) = reached.ForItem d k
 reached_by d (Some (canceller.Children children)) = reached.Children children
 reached_by d (Some (canceller.Inline i)) = reached.Inline i
 
--- whom a cancel of d reaches: the one at the end of the waiting, unless it is fired; nobody in a circle. The step
--- `Cancel` answers this (Twisted: `Deferred.cancel`, but `circle-of-waits`, `cancel-of-a-fired-list`)
+-- what a cancel of d reaches: the one at the end of the waiting, unless it is fired; nothing in a circle. The step
+-- `Cancel` returns this (Twisted: `Deferred.cancel`, but `circle-of-waits`, `cancel-of-a-fired-list`)
 abbrev pub whom_reaches : ℕ → World → Reached
 whom_reaches d w =
     found (end_of_waiting (length w.records + 1) d w) reached.Nothing λ e.
     found (slice_get w.records e) reached.Nothing λ r.
     if r.fired then reached.Nothing else reached_by e r.canceller
 
--- by whom a cancel reaches. Nobody: nothing happens. One without a canceller is fired with CancelledError, and its next
--- firing is swallowed. One with a canceller of the script: that is performed. One that waits for a token, or for a
+-- by what a cancel reaches. Nothing: nothing happens. One without a canceller is fired with CancelledError, and its
+-- next firing is swallowed. One with a canceller of the script: that is performed. One that waits for a token, or for a
 -- value of a queue, waits no longer, and is fired with CancelledError. A list: its children are cancelled. An inline
 -- body: what it awaits is cancelled (Twisted: `Deferred.cancel`, but `cancelled-inline`, `cancelled-running-inline`)
 abbrev pub cancel_reached : Reached → Rule
 cancel_reached reached.Nothing = finished
-cancel_reached (reached.Fire d) = FireGuarded d next calls (settles d)
+cancel_reached (reached.Fire d) = FireThenSwallow d next calls (settles d)
 cancel_reached (reached.Run d body) = calls (performs (Some d) body Null and ends_canceller d)
 cancel_reached (reached.ForToken d l) = Forget l d next Fires d cancelled
 cancel_reached (reached.ForItem d k) = Withdraw k d next Fires d cancelled
 cancel_reached (reached.Children children) = calls (cancel_children children)
 cancel_reached (reached.Inline i) = what_is_awaited i λ e. calls (cancels e)
 
--- logs the cancel of d, and cancels whom it reaches
+-- logs the cancel of d, and cancels what it reaches
 abbrev pub cancel : ℕ → Rule
 cancel d = Asks (Cancel d) cancel_reached
 
 -- 7. Locks and semaphores (Twisted: `DeferredLock`, `DeferredSemaphore`).
 
--- fires whoever got a token with the name of its lock
+-- fires the Deferred that got a token with the name of its lock
 abbrev pub grant : Option ℕ → List ℕ → Rule
 grant who name = Finds who finished λ d. Fires d (Text name)
 
@@ -179,12 +179,12 @@ release l =
 
 -- 8. Queues (Twisted: `DeferredQueue`).
 
--- fires whoever got a value with it
+-- fires the Deferred that got a value with it
 abbrev pub hand_out : Option (ℕ × Value) → Rule
 hand_out who = Finds who finished λ (d, v). Fires d v
 
--- raises QueueOverflow if a queue is full and nobody waits. Else puts a value into it, and the first that waits is
--- fired with it
+-- raises QueueOverflow if a queue is full and none waits. Else puts a value into it, and the first that waits is fired
+-- with it
 abbrev pub put_in : ℕ → Value → Rule
 put_in k v =
     the_queue k λ q.
@@ -260,7 +260,7 @@ hold l body = as_deferred (Holding l) body
 -- adds to each child, in order, the pair that reports to list l, whose Deferred is d
 abbrev pub add_children : ℕ → ℕ → ℕ → List ℕ → List Frame
 add_children l d i [] = []
-add_children l d i (c ∷ cs) = adds c (coming (record { list = l; place = i; of = d })) and add_children l d (1 + i) cs
+add_children l d i (c ∷ cs) = adds c (reporting (record { list = l; place = i; of = d })) and add_children l d (1 + i) cs
 
 -- whether a list fires at once: it has no children, and no `fireOnOneCallback`
 abbrev pub has_all_at_once : List ℕ → Flags → Bool
@@ -286,22 +286,22 @@ abbrev pub gather : List ℕ → List ℕ → Flags → Rule
 gather name children flags = next_deferred λ d. list name children flags after_which adds d results
 
 -- what a list is fired with once all of its children were fired: what was kept of each, in order
-abbrev pub all_came : List Value → Option Value
-all_came places = if nat_eq (count_missing places) 0 then Some (value.List places) else None
+abbrev pub all_fired : List Value → Option Value
+all_fired places = if nat_eq (count_missing places) 0 then Some (value.List places) else None
 
 -- what a list is fired with when child i is fired with v, if it is. A list that is fired fires nothing more. Under
 -- `fireOnOneCallback` a success fires it, with its place; under `fireOnOneErrback` a failure does, in a FirstError;
--- else the last child does. What is kept of a child is whether it succeeded, and its value. The step `CameTo` answers
--- this
+-- else the last child does. What is kept of a child is whether it succeeded, and its value. The step `ChildFired`
+-- returns this
 abbrev pub list_fires_with : ℕ → Value → Gather → Option Value
 list_fires_with i v g =
     if g.fired then None else
     if g.flags.fire_on_one_callback && succeeded v then Some (first_success i v) else
     found (if g.flags.fire_on_one_errback then failure_in v else None)
-    (all_came (slice_set g.places i (kept_of v))) λ failure.
+    (all_fired (slice_set g.places i (kept_of v))) λ failure.
     Some (first_failure i failure)
 
--- fires the Deferred of a list with what is due, if something is and nobody has fired it
+-- fires the Deferred of a list with what is due, if something is, unless it is fired already
 abbrev pub fire_list : ℕ → Option Value → Rule
 fire_list d due = Finds due finished λ v. if_unfired d (Fires d v) finished
 
@@ -309,7 +309,7 @@ fire_list d due = Finds due finished λ v. if_unfired d (Fires d v) finished
 -- `consumeErrors` a failure becomes null
 abbrev pub report : Child → Value → Rule
 report child input =
-    Asks (CameTo child.list child.place input) λ came. fire_list child.of came.fire after_which gives (Gave came.pass)
+    Asks (ChildFired child.list child.place input) λ answer. fire_list child.of answer.fire after_which gives (Gave answer.pass)
 
 -- gives what the children gave, from the result of their list; raises TypeError if that isn't such a result (Twisted:
 -- `gatherResults`, but `gather-fired-by-hand`)
@@ -396,7 +396,7 @@ abbrev pub notify_all : ℕ → List ℕ → List Frame
 notify_all t [] = []
 notify_all t (d ∷ ds) = notifies d t and tells_failure and notify_all t ds
 
--- ends a task, unless it has ended, and fires who waits for its end. `KeepTick` has the next tick scheduled while a
+-- ends a task, unless it has ended, and fires the waiters for its end. `KeepTick` has the next tick scheduled while a
 -- task takes turns, and no tick while none does
 abbrev pub end_task : ℕ → TaskEnd → Rule
 end_task t end = Asks (EndTask t end) λ waiting. KeepTick next calls (notify_all t waiting)
@@ -462,7 +462,7 @@ perform_next t next_body = Finds next_body (end_task t Finished) λ body. calls 
 abbrev pub tick_ended : Rule
 tick_ended = EndTick next KeepTick next finished
 
--- whoever's turn it is takes a step, and then so many more are taken; the tick ends if no task takes turns
+-- the task whose turn it is takes a step, and then so many more are taken; the tick ends if no task takes turns
 abbrev pub step_of_tick : ℕ → Rule
 step_of_tick left =
     Asks TakeStep λ whose.
@@ -531,11 +531,11 @@ go_with i answer p = calls (goes_on i (answered answer p))
 
 -- goes on so, if there is an answer; else nothing is done
 abbrev pub go_where : Inline → Option (Position × Value) → Rule
-go_where i came = Finds came finished λ (p, answer). go_with i answer p
+go_where i resumed = Finds resumed finished λ (p, answer). go_with i answer p
 
 -- goes on with the result of what a body awaited
 abbrev pub resume : Inline → Value → Rule
-resume i input = Asks (ComeToInline i.id input) (go_where i)
+resume i input = Asks (ResumeInline i.id input) (go_where i)
 
 -- awaits e: adds to it the pair that resumes the body
 abbrev pub await_found : Inline → ℕ → Position → Rule
@@ -606,7 +606,7 @@ run_side d (Some (side.Timed t)) input =
 run_side d (Some (side.OnTimeout t body)) input =
     its_time_is_over t λ is_over. If is_over (calls (performs (Some d) body input)) (give input)
 run_side d (Some (side.EndTimer t)) input = EndTimer t next give input
-run_side d (Some (side.Come child)) input = report child input
+run_side d (Some (side.Report child)) input = report child input
 run_side d (Some side.Results) input = give_gathered input
 run_side d (Some (side.Hold l body)) input = hold l body
 run_side d (Some (side.Release l)) input = release l after_which gives (Gave input)
@@ -723,20 +723,20 @@ perform_rest itself (action ∷ rest) end input = act itself action after_which 
 
 -- 20. What goes on.
 
--- goes on with an inline body by what it wants: nothing, an action, whose answer it goes on with, or the result of a
+-- goes on with an inline body by what it requests: nothing, an action, whose answer it goes on with, or the result of a
 -- Deferred
-abbrev pub do_wanted : Inline → Option Want → Position → Rule
-do_wanted i None p = finished
-do_wanted i (Some (Do action)) p = act (Some i.of) action after_which goes_on_with_answer i p
-do_wanted i (Some (Await name)) p = await i name p
+abbrev pub do_requested : Inline → Option Request → Position → Rule
+do_requested i None p = finished
+do_requested i (Some (Do action)) p = act (Some i.of) action after_which goes_on_with_answer i p
+do_requested i (Some (Await name)) p = await i name p
 
--- goes on with an inline body: `come` moves it up to what it wants, or to its end, where it fires its Deferred with its
--- result. On the way `raise` throws the active failure again, with `caught` a list of that is the present value, and an
--- `end` leaves the body
+-- goes on with an inline body: `run_to_request` moves it up to what it requests, or to its end, where it fires its
+-- Deferred with its result. On the way `raise` throws the active failure again, with `caught` a list of that is the
+-- present value, and an `end` leaves the body
 abbrev pub go_on : Inline → Position → Rule
 go_on i p =
-    let now = come p in
-    Finds now.result (do_wanted i (want_at now) now) λ result.
+    let now = run_to_request p in
+    Finds now.result (do_requested i (request_at now) now) λ result.
     Fires i.of result
 
 -- which of two calls runs first: the one that is due earlier; if both are due at one time, the one that was scheduled
@@ -751,7 +751,7 @@ first_call number (call ∷ calls) =
     let after = first_call (number + 1) calls in
     found (upcoming number call) after λ a. found after (Some a) λ b. Some (earlier a b)
 
--- which call runs next: the first of those that wait, if its time isn't later than now. The step `ComeDue` takes it,
+-- which call runs next: the first of those that wait, if its time isn't later than now. The step `TakeDue` takes it,
 -- and logs it
 abbrev pub next_due : World → Option Upcoming
 next_due w =
@@ -774,4 +774,4 @@ run_next (Some (what.Timeout d)) = calls (cancels d and tells_failure and runs_d
 
 -- runs what is due, until nothing is
 abbrev pub run_due : Rule
-run_due = Asks ComeDue run_next
+run_due = Asks TakeDue run_next

@@ -65,16 +65,16 @@ within zero frame p w = None
 within (suc depth) frame p w = say (within depth) (rule_of frame p) w
 
 -- at some depth, something returns this
-pub record ComesTo {A : Type 0} (something : Meant → Option A) (a : A) : Type 0 where
+pub record Returns {A : Type 0} (something : Meant → Option A) (a : A) : Type 0 where
   pub depth : ℕ
   pub ends : something (within depth) ≡ Some a
 
 -- 22. What happens in a run (Twisted: `reactor.callFromThread`, but `posts-at-drains`).
 
--- an event occurs, or a post with its body comes from another thread
+-- an event occurs, or another thread posts a body
 pub data Occurrence : Type 0 where
   Occurs : (event : Event) → Occurrence
-  Comes : (posted : Posted) (body : Body) → Occurrence
+  Posts : (posted : Posted) (body : Body) → Occurrence
 
 -- An action is performed, in which `@` isn't bound; a failure that it raises is logged as unhandled. An advance sets
 -- the time forward, and runs what is due. A drain is logged; its posts occur after it, and `most` decides which batches
@@ -84,7 +84,7 @@ abbrev pub happens : Occurrence → Rule
 happens (Occurs (event.Action action)) = act None action after_which tells_failure
 happens (Occurs (event.Advance ticks)) = Advance ticks next calls runs_due
 happens (Occurs (event.Drain most)) = TellDrain next finished
-happens (Comes posted body) = TellPost posted.caller posted.index next calls (performs None body Null and tells_failure)
+happens (Posts posted body) = TellPost posted.caller posted.index next calls (performs None body Null and tells_failure)
 
 -- the world after it
 abbrev pub happen : Meant → Occurrence → World → Option World
@@ -96,17 +96,17 @@ all_happen go [] w = Some w
 all_happen go (occurrence ∷ rest) w = happen go occurrence w and_then all_happen go rest
 
 -- the post with its body, if there is such a post
-abbrev pub coming_with : Posted → Option Body → List Occurrence
-coming_with posted None = []
-coming_with posted (Some body) = Comes posted body ∷ []
+abbrev pub posting_with : Posted → Option Body → List Occurrence
+posting_with posted None = []
+posting_with posted (Some body) = Posts posted body ∷ []
 
-abbrev pub coming : Callers → Posted → List Occurrence
-coming callers posted = coming_with posted (body_of callers posted)
+abbrev pub posting : Callers → Posted → List Occurrence
+posting callers posted = posting_with posted (body_of callers posted)
 
 -- the posts of a batch, in order
-abbrev pub comings : Callers → Batch → List Occurrence
-comings callers [] = []
-comings callers (posted ∷ posts) = coming callers posted ++ comings callers posts
+abbrev pub postings : Callers → Batch → List Occurrence
+postings callers [] = []
+postings callers (posted ∷ posts) = posting callers posted ++ postings callers posts
 
 -- the next batch, which is empty where there is none
 abbrev pub next_batch : List Batch → Batch
@@ -122,17 +122,17 @@ later_batches (batch ∷ batches) = batches
 
 -- the events in order; the next batch follows each drain, and the last batch the last event
 abbrev pub occurrences : Callers → List Event → List Batch → List Occurrence
-occurrences callers [] batches = comings callers (next_batch batches)
+occurrences callers [] batches = postings callers (next_batch batches)
 occurrences callers (event.Action action ∷ events) batches =
     Occurs (event.Action action) ∷ occurrences callers events batches
 occurrences callers (event.Advance ticks ∷ events) batches =
     Occurs (event.Advance ticks) ∷ occurrences callers events batches
 occurrences callers (event.Drain most ∷ events) batches =
     Occurs (event.Drain most)
-    ∷ (comings callers (next_batch batches) ++ occurrences callers events (later_batches batches))
+    ∷ (postings callers (next_batch batches) ++ occurrences callers events (later_batches batches))
 
 -- a script leads, where these batches of posts are taken, from a world in which nothing is made to this one
 abbrev pub Leads : Script → List Batch → World → Type 0
 Leads script batches after =
     let first = first_world script.classes script.bodies script.limit script.cooperator in
-    ComesTo (λ go. all_happen go (occurrences script.callers script.events batches) first) after
+    Returns (λ go. all_happen go (occurrences script.callers script.events batches) first) after

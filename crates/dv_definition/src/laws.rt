@@ -14,7 +14,7 @@ ghost use Rattle.dv_definition.specs.Conditions.{TasksTakeTurns, TurnsAreDue};
 ghost use Rattle.dv_definition.specs.Law.{FramesSayTheRule, FramesSayWhatHappens};
 
 /// The steps of the world go by the conditions that stand on the page: when an item is used, when a
-/// Deferred is waited for, whom a cancel reaches, when a list is fired and with what, which call
+/// Deferred is waited for, what a cancel reaches, when a list is fired and with what, which call
 /// runs next, when a loop's turn is due, whose turn it is among tasks, and where a failure is
 /// thrown in an inline body, or an end leaves it.
 pub fn steps_go_by_the_page()

@@ -3,7 +3,7 @@ ghost use Rattle.dv_posts.specs.Batches.{AreNext, body_of, joined};
 ghost use Rattle.dv_frames.specs.Bounds.{Bounded};
 ghost use Rattle.dv_engine.specs.Engine.{begun_for, taken_for};
 ghost use Rattle.dv_loop.specs.Meaning.{Runs};
-ghost use Rattle.dv_definition.specs.Scripts.{coming, comings};
+ghost use Rattle.dv_definition.specs.Scripts.{posting, postings};
 ghost use Rattle.dv_posts.specs.Taking.{with_batch};
 
 use crate::engine::Phase;
@@ -11,7 +11,7 @@ use dv_frames::turn::Turn;
 use dv_inline::poller::Poller;
 use dv_jobs::source::JobSource;
 use dv_journal::entry::Entry;
-use dv_loop::runner::come;
+use dv_loop::runner::run_post;
 use dv_posts::batches::Batches;
 use dv_posts::posted::Posted;
 use dv_script::body::Body;
@@ -22,9 +22,9 @@ use std::alloc::{AllocError, AllocGlobal};
 use std::random::RandomSource;
 use std::sync::Wait;
 
-/// Performs a batch, each post of which is the next one of its caller, and takes it: that of a
-/// drain, logged before, or the one after the last event. The only error is out of memory.
-pub fn drain<'s, R, J>(
+/// Runs a batch, each post of which is the next one of its caller, and takes it: that of a drain,
+/// which is logged first, or the one after the last event. The only error is out of memory.
+pub fn run_batch<'s, R, J>(
     rt: &R,
     poller: &Poller,
     jobs: &mut Submissions<'s, J>,
@@ -45,13 +45,13 @@ where
     ensures batches { OnOk result (batches.new ≡ with_batch batch batches.old) }
     ensures callers { batches.new.callers ≡ batches.old.callers }
 {
-    begin(&mut turn.world, phase)?;
-    come_all(rt, poller, jobs, turn, batches.callers(), batch.as_slice())?;
+    log_drain(&mut turn.world, phase)?;
+    run_posts(rt, poller, jobs, turn, batches.callers(), batch.as_slice())?;
     batches.put(batch)
 }
 
-/// Logs a drain.
-fn begin<'s>(world: &mut World<'s>, phase: Phase) -> Result<(), AllocError>
+/// Logs the drain, if the batch is that of one.
+fn log_drain<'s>(world: &mut World<'s>, phase: Phase) -> Result<(), AllocError>
     ensures runs { OnOk result (Runs (begun_for phase) world.old world.new) }
     ensures works { OnOk result (world.new.works ≡ world.old.works) }
 {
@@ -64,8 +64,8 @@ fn begin<'s>(world: &mut World<'s>, phase: Phase) -> Result<(), AllocError>
     }
 }
 
-/// Posts come, one after the other.
-fn come_all<'s, R, J>(
+/// Runs posts, one after the other.
+fn run_posts<'s, R, J>(
     rt: &R,
     poller: &Poller,
     jobs: &mut Submissions<'s, J>,
@@ -79,17 +79,17 @@ where
     requires bounded { Bounded turn.old.world }
     requires jobs { jobs.old ≡ turn.old.world.works }
     ensures runs { OnOk result
-        (Runs (comings callers.now batch.now) turn.old.world turn.new.world) }
+        (Runs (postings callers.now batch.now) turn.old.world turn.new.world) }
     ensures jobs { OnOk result (jobs.new ≡ turn.new.world.works) }
 {
     for posted in batch {
-        come_if_there(rt, poller, jobs, turn, callers, posted)?;
+        run_post_if_there(rt, poller, jobs, turn, callers, posted)?;
     }
     Ok(())
 }
 
-/// A post comes, where there is such a post.
-fn come_if_there<'s, R, J>(
+/// Runs a post, if there is such a post.
+fn run_post_if_there<'s, R, J>(
     rt: &R,
     poller: &Poller,
     jobs: &mut Submissions<'s, J>,
@@ -103,12 +103,12 @@ where
     requires bounded { Bounded turn.old.world }
     requires jobs { jobs.old ≡ turn.old.world.works }
     ensures runs { OnOk result
-        (Runs (coming callers.now posted.now) turn.old.world turn.new.world) }
+        (Runs (posting callers.now posted.now) turn.old.world turn.new.world) }
     ensures jobs { OnOk result (jobs.new ≡ turn.new.world.works) }
 {
     match body_of(callers, posted) {
         None => Ok(()),
-        Some(body) => come(rt, poller, jobs, turn, posted, body),
+        Some(body) => run_post(rt, poller, jobs, turn, posted, body),
     }
 }
 

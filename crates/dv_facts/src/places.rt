@@ -64,24 +64,24 @@ impl Places {
         self.after_loop = nesting == Nesting::Loop;
         match nesting {
             Nesting::Plain | Nesting::Loop => Ok(self.place(None)),
-            Nesting::Begins => self.begin(entry, Part::Side),
+            Nesting::Begins => self.open_part(entry, Part::Side),
             Nesting::Ends => {
                 let ended = self.end_side();
                 Ok(self.place(ended))
             }
-            Nesting::Outer => self.begin(entry, Part::Outer),
+            Nesting::Outer => self.open_part(entry, Part::Outer),
             Nesting::Turn => {
                 if at_once {
                     Ok(self.place(None))
                 } else {
-                    self.come_due(entry, Part::Due)
+                    self.open_due(entry, Part::Due)
                 }
             }
-            Nesting::Due => self.come_due(entry, Part::Due),
-            Nesting::Tick => self.come_due(entry, Part::Tick),
+            Nesting::Due => self.open_due(entry, Part::Due),
+            Nesting::Tick => self.open_due(entry, Part::Tick),
             Nesting::Step => {
                 self.end_step();
-                self.begin(entry, Part::Step)
+                self.open_part(entry, Part::Step)
             }
             Nesting::NextTick => {
                 self.end_step();
@@ -90,20 +90,20 @@ impl Places {
         }
     }
 
-    fn begin(&mut self, entry: usize, part: Part) -> Result<Place, AllocError> {
+    fn open_part(&mut self, entry: usize, part: Part) -> Result<Place, AllocError> {
         let place = self.place(None);
         self.open.push(Open { entry, part })?;
         Ok(place)
     }
 
     /// What came due before has ended.
-    fn come_due(&mut self, entry: usize, part: Part) -> Result<Place, AllocError> {
+    fn open_due(&mut self, entry: usize, part: Part) -> Result<Place, AllocError> {
         let outer = match self.open.first() {
             Some(open) if open.part == Part::Outer => 1,
             Some(_) | None => 0,
         };
         self.open.truncate(outer);
-        self.begin(entry, part)
+        self.open_part(entry, part)
     }
 
     /// A step that is open, and in which no side runs, has ended.

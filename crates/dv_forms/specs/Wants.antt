@@ -3,9 +3,9 @@ use Rattle.std.specs.Prelude.{ℕ, nat_eq, nat_lt, if◌then◌else◌, List, []
 use Rattle.serde_json.specs.Data.{Data, null, boolean, number, string, array, object}
 use Rattle.dv_forms.specs.declared.want.Object.TheVariants as named
 use Rattle.dv_forms.specs.declared.want.Leaf.TheVariants as leaf
-use Rattle.dv_forms.specs.declared.want.Call.TheVariants as call
-use Rattle.dv_forms.specs.declared.want.Pair.{Pair}
-use Rattle.dv_forms.specs.declared.want.Pair.TheVariants as pair
+use Rattle.dv_forms.specs.declared.want.CallKind.TheVariants as call
+use Rattle.dv_forms.specs.declared.want.PairKind.{PairKind}
+use Rattle.dv_forms.specs.declared.want.PairKind.TheVariants as pair
 use Rattle.dv_forms.specs.declared.want.Keyed.{Keyed}
 use Rattle.dv_forms.specs.declared.want.Keyed.TheVariants as keyed
 use Rattle.dv_forms.specs.declared.want.Item.{Item}
@@ -125,7 +125,7 @@ keys_in (keyed.Body since) = codes "do" ∷ codes "end" ∷ codes "comment" ∷ 
 keys_in keyed.Failure = codes "fail" ∷ codes "index" ∷ codes "message" ∷ codes "sub" ∷ []
 
 -- the parts of a pair
-abbrev pub pair_wants : Pair → List Want
+abbrev pub pair_wants : PairKind → List Want
 pair_wants pair.Declaration = want.Leaf (leaf.New named.Class) ∷ a_text ∷ []
 pair_wants pair.Pool = want.Leaf (leaf.New named.Pool) ∷ want.Leaf (leaf.Number 0 MOST_WORKERS) ∷ []
 pair_wants pair.Body = want.Leaf (leaf.New named.Body) ∷ a_body ∷ []

@@ -3,8 +3,8 @@
 use Rattle.std.specs.Prelude.{ℕ, Bool, true, false, not, ◌&&◌, ◌||◌, nat_eq, nat_le, List, [], ◌∷◌, ◌++◌, length, map}
 use Rattle.std.specs.Prelude.{Option, Some, None, option_and_then, if◌then◌else◌, bytes_eq}
 use Rattle.std.specs.Borrow.{Bor}
-use Rattle.dv_forms.specs.declared.want.Call.{Call}
-use Rattle.dv_forms.specs.declared.want.Call.TheVariants as call
+use Rattle.dv_forms.specs.declared.want.CallKind.{CallKind}
+use Rattle.dv_forms.specs.declared.want.CallKind.TheVariants as call
 use Rattle.dv_forms.specs.declared.want.Want.{Want}
 use Rattle.dv_forms.specs.declared.words.ActionWord.{ActionWord}
 use Rattle.dv_forms.specs.declared.words.EventWord.{EventWord}
@@ -26,7 +26,7 @@ abbrev pub seen : {W : Type 0} → W × Bor (List ℕ) × Bor (List Want) × Bor
 seen f = record { word = f.1.now; wants = f.2.now; shown = f.3.now; since = f.4 }
 
 -- the forms of the words that may stand at such a place, but for those of a narrower place
-abbrev pub own_forms : Call → List Form
+abbrev pub own_forms : CallKind → List Form
 own_forms call.Event = map (λ f. record { word = f.1.now; wants = f.2.now; shown = f.3.now; since = f.4 }) EVENT_FORMS
 own_forms call.Action = map (λ f. record { word = f.1.now; wants = f.2.now; shown = f.3.now; since = f.4 }) ACTION_FORMS
 own_forms call.Statement =
@@ -37,7 +37,7 @@ own_forms call.Leaving =
 own_forms call.Work = map (λ f. record { word = f.1.now; wants = f.2.now; shown = f.3.now; since = f.4 }) WORK_FORMS
 
 -- the narrower place whose words may stand at such a place, too
-abbrev pub narrower : Call → Option Call
+abbrev pub narrower : CallKind → Option CallKind
 narrower call.Event = Some call.Action
 narrower call.Action = None
 narrower call.Statement = None
@@ -71,7 +71,7 @@ apart [] = true
 apart (form ∷ forms) = not (some_for form.word (length form.wants) forms) && apart forms
 
 -- what they have to be, where the word may stand at such a place and has a form with so many arguments
-abbrev pub wants_of : Call → List ℕ → ℕ → Option (List Want)
+abbrev pub wants_of : CallKind → List ℕ → ℕ → Option (List Want)
 wants_of c word given =
     or_else (wants_in (own_forms c) word given) (option_and_then (λ n. wants_in (own_forms n) word given) (narrower c))
 
@@ -82,12 +82,12 @@ has_word (form ∷ forms) word version =
     (bytes_eq form.word word && nat_le form.since version) || has_word forms word version
 
 -- the same of a place that there may not be
-abbrev pub has_word_at : Option Call → List ℕ → ℕ → Bool
+abbrev pub has_word_at : Option CallKind → List ℕ → ℕ → Bool
 has_word_at None word version = false
 has_word_at (Some c) word version = has_word (own_forms c) word version
 
 -- whether a word may stand at such a place in a script of this version, whatever comes with it
-abbrev pub may_stand : Call → List ℕ → ℕ → Bool
+abbrev pub may_stand : CallKind → List ℕ → ℕ → Bool
 may_stand c word version = has_word (own_forms c) word version || has_word_at (narrower c) word version
 
 -- of words, each with its text, the one that a text names

@@ -10,7 +10,7 @@ use crate::leaf::{
     bound, class, classes_in, gather_flags_in, integer, list_flags_in, number, one, places_in,
     small, text, texts_in, three, two,
 };
-use crate::stop::Stop;
+use crate::shape_fault::ShapeFault;
 use crate::value::value;
 use dv_clock::limits::MOST_DELAY;
 use dv_script::action::{GatherFlag, ListFlag};
@@ -26,7 +26,7 @@ use std::alloc::Global;
 /// A text alone.
 #[inline(always)]
 #[tactic(auto, unfolding(crate::specs::Parts::sole))]
-pub fn one_text(alloc: Global, arguments: &[Json]) -> Result<Text, Stop>
+pub fn one_text(alloc: Global, arguments: &[Json]) -> Result<Text, ShapeFault>
     ensures { Reads result (sole text_at (items_view arguments.now)) }
 {
     text(alloc, one(arguments)?)
@@ -34,7 +34,7 @@ pub fn one_text(alloc: Global, arguments: &[Json]) -> Result<Text, Stop>
 
 /// A value alone.
 #[tactic(auto, unfolding(crate::specs::Parts::sole))]
-pub fn one_value(alloc: Global, classes: &Classes, arguments: &[Json]) -> Result<Value, Stop>
+pub fn one_value(alloc: Global, classes: &Classes, arguments: &[Json]) -> Result<Value, ShapeFault>
     ensures { Reads result (sole (value_at classes.now) (items_view arguments.now)) }
 {
     value(alloc, classes, one(arguments)?)
@@ -42,7 +42,7 @@ pub fn one_value(alloc: Global, classes: &Classes, arguments: &[Json]) -> Result
 
 /// An integer of 64 bits alone.
 #[tactic(auto, unfolding(crate::specs::Parts::sole))]
-pub fn one_integer(arguments: &[Json]) -> Result<i64, Stop>
+pub fn one_integer(arguments: &[Json]) -> Result<i64, ShapeFault>
     ensures { Reads result (sole integer_at (items_view arguments.now)) }
 {
     integer(one(arguments)?)
@@ -50,7 +50,7 @@ pub fn one_integer(arguments: &[Json]) -> Result<i64, Stop>
 
 /// An integer alone, from `low` to `high`.
 #[tactic(auto, unfolding(crate::specs::Parts::sole))]
-pub fn one_number(arguments: &[Json], low: u64, high: u64) -> Result<u64, Stop>
+pub fn one_number(arguments: &[Json], low: u64, high: u64) -> Result<u64, ShapeFault>
     ensures { Reads result (sole (number_at low high) (items_view arguments.now)) }
 {
     number(one(arguments)?, low, high)
@@ -58,7 +58,7 @@ pub fn one_number(arguments: &[Json], low: u64, high: u64) -> Result<u64, Stop>
 
 /// An integer alone, from `low` to `high`, which are of 32 bits.
 #[tactic(auto, unfolding(crate::specs::Parts::sole))]
-pub fn one_small(arguments: &[Json], low: u32, high: u32) -> Result<u32, Stop>
+pub fn one_small(arguments: &[Json], low: u32, high: u32) -> Result<u32, ShapeFault>
     ensures { Reads result (sole (number_at low high) (items_view arguments.now)) }
 {
     small(one(arguments)?, low, high)
@@ -66,7 +66,7 @@ pub fn one_small(arguments: &[Json], low: u32, high: u32) -> Result<u32, Stop>
 
 /// Places in lists alone.
 #[tactic(auto, unfolding(crate::specs::Parts::sole))]
-pub fn one_path(alloc: Global, arguments: &[Json]) -> Result<Items<u32>, Stop>
+pub fn one_path(alloc: Global, arguments: &[Json]) -> Result<Items<u32>, ShapeFault>
     ensures { Reads result (sole (list_at (number_at 0 MOST_PLACE)) (items_view arguments.now)) }
 {
     places_in(alloc, one(arguments)?)
@@ -74,7 +74,7 @@ pub fn one_path(alloc: Global, arguments: &[Json]) -> Result<Items<u32>, Stop>
 
 /// Two texts.
 #[tactic(auto, unfolding(crate::specs::Parts::pair))]
-pub fn two_texts(alloc: Global, arguments: &[Json]) -> Result<(Text, Text), Stop>
+pub fn two_texts(alloc: Global, arguments: &[Json]) -> Result<(Text, Text), ShapeFault>
     ensures { Reads result (pair text_at text_at (items_view arguments.now)) }
 {
     let (first, second) = two(arguments)?;
@@ -89,7 +89,7 @@ pub fn named_value(
     alloc: Global,
     classes: &Classes,
     arguments: &[Json],
-) -> Result<(Text, Value), Stop>
+) -> Result<(Text, Value), ShapeFault>
     ensures { Reads result (pair text_at (value_at classes.now) (items_view arguments.now)) }
 {
     let (name, json) = two(arguments)?;
@@ -100,7 +100,7 @@ pub fn named_value(
 
 /// A name, and a number of places.
 #[tactic(auto, unfolding(crate::specs::Parts::pair))]
-pub fn named_places(alloc: Global, arguments: &[Json]) -> Result<(Text, u32), Stop>
+pub fn named_places(alloc: Global, arguments: &[Json]) -> Result<(Text, u32), ShapeFault>
     ensures { Reads result (pair text_at (number_at 1 MOST_PLACES) (items_view arguments.now)) }
 {
     let (name, json) = two(arguments)?;
@@ -111,7 +111,7 @@ pub fn named_places(alloc: Global, arguments: &[Json]) -> Result<(Text, u32), St
 
 /// A name, and a delay.
 #[tactic(auto, unfolding(crate::specs::Parts::pair))]
-pub fn named_delay(alloc: Global, arguments: &[Json]) -> Result<(Text, u64), Stop>
+pub fn named_delay(alloc: Global, arguments: &[Json]) -> Result<(Text, u64), ShapeFault>
     ensures { Reads result (pair text_at (number_at 0 MOST_DELAY) (items_view arguments.now)) }
 {
     let (name, json) = two(arguments)?;
@@ -126,7 +126,7 @@ pub fn class_and_message(
     alloc: Global,
     classes: &Classes,
     arguments: &[Json],
-) -> Result<(ClassId, Text), Stop>
+) -> Result<(ClassId, Text), ShapeFault>
     ensures { Reads result (pair (class_at classes.now) text_at (items_view arguments.now)) }
 {
     let (name, message) = two(arguments)?;
@@ -141,7 +141,7 @@ pub fn classes_and_value(
     alloc: Global,
     classes: &Classes,
     arguments: &[Json],
-) -> Result<(Items<ClassId>, Value), Stop>
+) -> Result<(Items<ClassId>, Value), ShapeFault>
     ensures { Reads result
         (pair (list_at (class_at classes.now)) (value_at classes.now)
         (items_view arguments.now)) }
@@ -158,7 +158,7 @@ pub fn named_failure(
     alloc: Global,
     classes: &Classes,
     arguments: &[Json],
-) -> Result<(Text, ClassId, Text), Stop>
+) -> Result<(Text, ClassId, Text), ShapeFault>
     ensures { Reads result
         (triple text_at (class_at classes.now) text_at (items_view arguments.now)) }
 {
@@ -174,7 +174,7 @@ pub fn named_failure(
 pub fn named_list(
     alloc: Global,
     arguments: &[Json],
-) -> Result<(Text, Items<Text>, Items<ListFlag>), Stop>
+) -> Result<(Text, Items<Text>, Items<ListFlag>), ShapeFault>
     ensures { Reads result (triple text_at (list_at text_at) (list_at list_flag_at)
         (items_view arguments.now)) }
 {
@@ -190,7 +190,7 @@ pub fn named_list(
 pub fn named_gathering(
     alloc: Global,
     arguments: &[Json],
-) -> Result<(Text, Items<Text>, Items<GatherFlag>), Stop>
+) -> Result<(Text, Items<Text>, Items<GatherFlag>), ShapeFault>
     ensures { Reads result (triple text_at (list_at text_at) (list_at gather_flag_at)
         (items_view arguments.now)) }
 {
@@ -201,12 +201,12 @@ pub fn named_gathering(
     Ok((name, children, flags))
 }
 
-/// The name of a queue, the bound of its items, and that of those who wait for one.
+/// The name of a queue, the bound of its items, and the bound of its waiters.
 #[tactic(auto, unfolding(crate::specs::Parts::triple))]
 pub fn named_bounds(
     alloc: Global,
     arguments: &[Json],
-) -> Result<(Text, Option<u32>, Option<u32>), Stop>
+) -> Result<(Text, Option<u32>, Option<u32>), ShapeFault>
     ensures { Reads result (triple text_at bound_at bound_at (items_view arguments.now)) }
 {
     let (name, size, backlog) = three(arguments)?;

@@ -8,7 +8,7 @@ ghost use Rattle.dv_forms.specs.Forms.{first_error, has_none_but, is_first_error
 ghost use Rattle.dv_forms.specs.Parts.{bare_at, empty_at, failure_at, head_at, plain_at, sub_at};
 
 use crate::leaf::{class, is_among, small, text};
-use crate::stop::Stop;
+use crate::shape_fault::ShapeFault;
 use dv_value::boxed::Boxed;
 use dv_value::class_id::ClassId;
 use dv_value::classes::Classes;
@@ -22,16 +22,16 @@ pub const MOST_INDEX: u32 = 4_294_967_295;
 
 /// An object with no other keys than these.
 #[tactic(auto, unfolding(crate::specs::Parts::bare_at))]
-fn bare(json: &Json, keys: &[&str]) -> Result<(), Stop>
+fn bare(json: &Json, keys: &[&str]) -> Result<(), ShapeFault>
     ensures { Gives (λ _. tt) result (bare_at (map (λ k. k.now) keys.now) (view json.now)) }
 {
     let Json::Object(members) = json else {
-        return Err(Stop::BadShape);
+        return Err(ShapeFault::BadShape);
     };
     if has_none_but(members, keys) {
         Ok(())
     } else {
-        Err(Stop::BadShape)
+        Err(ShapeFault::BadShape)
     }
 }
 
@@ -49,19 +49,19 @@ fn has_none_but(members: &Map<String, Json>, keys: &[&str]) -> bool
 }
 
 /// The value of a key that has to be there.
-fn needed<'j>(json: &'j Json, key: &str) -> Result<&'j Json, Stop>
+fn needed<'j>(json: &'j Json, key: &str) -> Result<&'j Json, ShapeFault>
     ensures { Gives (λ d. view d.now) result (get key.now (view json.now)) }
 {
-    json.get(key).ok_or(Stop::BadShape)
+    json.get(key).ok_or(ShapeFault::BadShape)
 }
 
 /// An empty text.
-fn empty(json: &Json) -> Result<(), Stop>
+fn empty(json: &Json) -> Result<(), ShapeFault>
     ensures { Reads result (empty_at (view json.now)) }
 {
     match json.as_str() {
         Some("") => Ok(()),
-        Some(_) | None => Err(Stop::BadShape),
+        Some(_) | None => Err(ShapeFault::BadShape),
     }
 }
 
@@ -97,7 +97,7 @@ fn with_sub(
 
 /// A failure of any class but FirstError.
 #[tactic(auto, unfolding(crate::specs::Parts::plain_at))]
-fn plain(alloc: Global, classes: &Classes, json: &Json) -> Result<Failure, Stop>
+fn plain(alloc: Global, classes: &Classes, json: &Json) -> Result<Failure, ShapeFault>
     ensures { Reads result (plain_at classes.now (view json.now)) }
 {
     bare(json, &["fail", "message"])?;
@@ -108,7 +108,7 @@ fn plain(alloc: Global, classes: &Classes, json: &Json) -> Result<Failure, Stop>
 
 /// The class and the place of a failure of FirstError.
 #[tactic(auto, unfolding(crate::specs::Parts::head_at))]
-fn head(classes: &Classes, json: &Json) -> Result<(ClassId, u32), Stop>
+fn head(classes: &Classes, json: &Json) -> Result<(ClassId, u32), ShapeFault>
     ensures { Reads result (head_at classes.now (view json.now)) }
 {
     bare(json, &["fail", "index", "message", "sub"])?;
@@ -120,7 +120,7 @@ fn head(classes: &Classes, json: &Json) -> Result<(ClassId, u32), Stop>
 
 /// The failure in a failure.
 #[cycle(failure)]
-fn sub(alloc: Global, classes: &Classes, members: &Map<String, Json>) -> Result<Failure, Stop>
+fn sub(alloc: Global, classes: &Classes, members: &Map<String, Json>) -> Result<Failure, ShapeFault>
     ensures { Reads result (sub_at classes.now (members_view members.now.entries)) }
 {
     for (key, json) in members.iter() {
@@ -128,17 +128,17 @@ fn sub(alloc: Global, classes: &Classes, members: &Map<String, Json>) -> Result<
             return failure(alloc, classes, json);
         }
     }
-    Err(Stop::BadShape)
+    Err(ShapeFault::BadShape)
 }
 
 /// A failure: an object of its class and its message, and for FirstError of the failure in it.
 #[cycle(failure)]
 #[tactic(auto, unfolding(crate::specs::Parts::first_error_by))]
-pub fn failure(alloc: Global, classes: &Classes, json: &Json) -> Result<Failure, Stop>
+pub fn failure(alloc: Global, classes: &Classes, json: &Json) -> Result<Failure, ShapeFault>
     ensures { Reads result (failure_at classes.now (view json.now)) }
 {
     let Json::Object(members) = json else {
-        return Err(Stop::BadShape);
+        return Err(ShapeFault::BadShape);
     };
     if !is_first_error(json) {
         return plain(alloc, classes, json);

@@ -10,7 +10,7 @@ ghost use Rattle.dv_forms.specs.Parts.{list_flag, list_flag_at, gather_flag_name
 ghost use Rattle.dv_forms.specs.Parts.{list_at, call_at, none, first, if_any, one, one_or_two, two};
 ghost use Rattle.dv_forms.specs.Parts.{two_or_three, three, four, five, fields_at};
 
-use crate::stop::Stop;
+use crate::shape_fault::ShapeFault;
 use dv_script::action::{GatherFlag, ListFlag};
 use dv_script::limits::{MOST_PLACE, MOST_PLACES};
 use dv_value::class_id::ClassId;
@@ -21,24 +21,24 @@ use serde_json::{Map, Value as Json};
 use std::alloc::Global;
 
 /// A text.
-pub fn text(alloc: Global, json: &Json) -> Result<Text, Stop>
+pub fn text(alloc: Global, json: &Json) -> Result<Text, ShapeFault>
     ensures { Reads result (text_at (view json.now)) }
 {
     let Json::String(text) = json else {
-        return Err(Stop::BadShape);
+        return Err(ShapeFault::BadShape);
     };
     Ok(Text::of(alloc, text.as_str())?)
 }
 
 /// An integer of 64 bits.
-pub fn integer(json: &Json) -> Result<i64, Stop>
+pub fn integer(json: &Json) -> Result<i64, ShapeFault>
     ensures { Reads result (integer_at (view json.now)) }
 {
-    json.as_i64().ok_or(Stop::BadShape)
+    json.as_i64().ok_or(ShapeFault::BadShape)
 }
 
 /// An integer from `low` to `high`.
-pub fn number(json: &Json, low: u64, high: u64) -> Result<u64, Stop>
+pub fn number(json: &Json, low: u64, high: u64) -> Result<u64, ShapeFault>
     ensures read { Reads result (number_at low high (view json.now)) }
     ensures most { IfOk result (λ n. n ≤ high) }
 {
@@ -46,50 +46,56 @@ pub fn number(json: &Json, low: u64, high: u64) -> Result<u64, Stop>
         Some(n) => if low <= n && n <= high {
             Ok(n)
         } else {
-            Err(Stop::BadShape)
+            Err(ShapeFault::BadShape)
         },
-        None => Err(Stop::BadShape),
+        None => Err(ShapeFault::BadShape),
     }
 }
 
 /// An integer from `low` to `high`, which are of 32 bits.
-pub fn small(json: &Json, low: u32, high: u32) -> Result<u32, Stop>
+pub fn small(json: &Json, low: u32, high: u32) -> Result<u32, ShapeFault>
     ensures { Reads result (number_at low high (view json.now)) }
 {
     Ok(number(json, u64::from(low), u64::from(high))? as u32)
 }
 
 /// A boolean.
-pub fn boolean(json: &Json) -> Result<bool, Stop>
+pub fn boolean(json: &Json) -> Result<bool, ShapeFault>
     ensures { Reads result (as_bool (view json.now)) }
 {
-    json.as_bool().ok_or(Stop::BadShape)
+    json.as_bool().ok_or(ShapeFault::BadShape)
 }
 
 /// A bound of a queue, or none.
-pub fn bound(json: &Json) -> Result<Option<u32>, Stop>
+pub fn bound(json: &Json) -> Result<Option<u32>, ShapeFault>
     ensures { Reads result (bound_at (view json.now)) }
 {
     match json {
         Json::Null => Ok(None),
         Json::Number(_) => Ok(Some(small(json, 0, MOST_PLACES)?)),
-        Json::Bool(_) | Json::String(_) | Json::Array(_) | Json::Object(_) => Err(Stop::BadShape),
+        Json::Bool(_) | Json::String(_) | Json::Array(_) | Json::Object(_) => Err(
+            ShapeFault::BadShape,
+        ),
     }
 }
 
 /// The place of a class, or the place past the last where the table has none of this name.
-pub fn class(classes: &Classes, json: &Json) -> Result<ClassId, Stop>
+pub fn class(classes: &Classes, json: &Json) -> Result<ClassId, ShapeFault>
     ensures { Reads result (class_at classes.now (view json.now)) }
 {
     let Json::String(name) = json else {
-        return Err(Stop::BadShape);
+        return Err(ShapeFault::BadShape);
     };
     let past_the_last = ClassId::new(classes.count());
     Ok(classes.find(name.as_str()).unwrap_or(past_the_last))
 }
 
 /// An array of classes.
-pub fn classes_in(alloc: Global, classes: &Classes, json: &Json) -> Result<Items<ClassId>, Stop>
+pub fn classes_in(
+    alloc: Global,
+    classes: &Classes,
+    json: &Json,
+) -> Result<Items<ClassId>, ShapeFault>
     ensures { Reads result (list_at (class_at classes.now) (view json.now)) }
 {
     let items = array(json)?;
@@ -101,7 +107,7 @@ pub fn classes_in(alloc: Global, classes: &Classes, json: &Json) -> Result<Items
 }
 
 /// An array of texts.
-pub fn texts_in(alloc: Global, json: &Json) -> Result<Items<Text>, Stop>
+pub fn texts_in(alloc: Global, json: &Json) -> Result<Items<Text>, ShapeFault>
     ensures { Reads result (list_at text_at (view json.now)) }
 {
     let items = array(json)?;
@@ -113,7 +119,7 @@ pub fn texts_in(alloc: Global, json: &Json) -> Result<Items<Text>, Stop>
 }
 
 /// An array of places in lists.
-pub fn places_in(alloc: Global, json: &Json) -> Result<Items<u32>, Stop>
+pub fn places_in(alloc: Global, json: &Json) -> Result<Items<u32>, ShapeFault>
     ensures { Reads result (list_at (number_at 0 MOST_PLACE) (view json.now)) }
 {
     let items = array(json)?;
@@ -135,17 +141,17 @@ fn list_flag_named(word: &str) -> Option<ListFlag>
     }
 }
 
-fn list_flag(json: &Json) -> Result<ListFlag, Stop>
+fn list_flag(json: &Json) -> Result<ListFlag, ShapeFault>
     ensures { Reads result (list_flag_at (view json.now)) }
 {
     let Json::String(word) = json else {
-        return Err(Stop::BadShape);
+        return Err(ShapeFault::BadShape);
     };
-    list_flag_named(word.as_str()).ok_or(Stop::BadShape)
+    list_flag_named(word.as_str()).ok_or(ShapeFault::BadShape)
 }
 
 /// An array of flags of a list.
-pub fn list_flags_in(alloc: Global, json: &Json) -> Result<Items<ListFlag>, Stop>
+pub fn list_flags_in(alloc: Global, json: &Json) -> Result<Items<ListFlag>, ShapeFault>
     ensures { Reads result (list_at list_flag_at (view json.now)) }
 {
     let items = array(json)?;
@@ -165,17 +171,17 @@ fn gather_flag_named(word: &str) -> Option<GatherFlag>
     }
 }
 
-fn gather_flag(json: &Json) -> Result<GatherFlag, Stop>
+fn gather_flag(json: &Json) -> Result<GatherFlag, ShapeFault>
     ensures { Reads result (gather_flag_at (view json.now)) }
 {
     let Json::String(word) = json else {
-        return Err(Stop::BadShape);
+        return Err(ShapeFault::BadShape);
     };
-    gather_flag_named(word.as_str()).ok_or(Stop::BadShape)
+    gather_flag_named(word.as_str()).ok_or(ShapeFault::BadShape)
 }
 
 /// An array of flags of what is gathered.
-pub fn gather_flags_in(alloc: Global, json: &Json) -> Result<Items<GatherFlag>, Stop>
+pub fn gather_flags_in(alloc: Global, json: &Json) -> Result<Items<GatherFlag>, ShapeFault>
     ensures { Reads result (list_at gather_flag_at (view json.now)) }
 {
     let items = array(json)?;
@@ -187,56 +193,56 @@ pub fn gather_flags_in(alloc: Global, json: &Json) -> Result<Items<GatherFlag>, 
 }
 
 /// The items of an array.
-pub fn array(json: &Json) -> Result<&[Json], Stop>
+pub fn array(json: &Json) -> Result<&[Json], ShapeFault>
     ensures { Gives (λ items. items_view items.now) result (as_array (view json.now)) }
 {
     let Json::Array(items) = json else {
-        return Err(Stop::BadShape);
+        return Err(ShapeFault::BadShape);
     };
     Ok(items.as_slice())
 }
 
 /// A word, and what comes with it.
 #[tactic(auto, unfolding(crate::specs::Parts::call_at))]
-pub fn call(json: &Json) -> Result<(&str, &[Json]), Stop>
+pub fn call(json: &Json) -> Result<(&str, &[Json]), ShapeFault>
     ensures { Gives (λ call. (call.0.now, items_view call.1.now)) result (call_at (view json.now)) }
 {
     let parts = array(json)?;
     let Some((first, arguments)) = parts.split_first() else {
-        return Err(Stop::BadShape);
+        return Err(ShapeFault::BadShape);
     };
     let Json::String(word) = first else {
-        return Err(Stop::BadShape);
+        return Err(ShapeFault::BadShape);
     };
     Ok((word.as_str(), arguments))
 }
 
 /// No argument.
 #[tactic(auto, unfolding(crate::specs::Parts::none))]
-pub fn none(items: &[Json]) -> Result<(), Stop>
+pub fn none(items: &[Json]) -> Result<(), ShapeFault>
     ensures { Gives (λ _. tt) result (none (items_view items.now)) }
 {
     match items.split_first() {
         None => Ok(()),
-        Some(_) => Err(Stop::BadShape),
+        Some(_) => Err(ShapeFault::BadShape),
     }
 }
 
 /// An argument, and the rest.
 #[tactic(auto, unfolding(crate::specs::Parts::first))]
-fn first(items: &[Json]) -> Result<(&Json, &[Json]), Stop>
+fn first(items: &[Json]) -> Result<(&Json, &[Json]), ShapeFault>
     ensures { Gives (λ p. (view p.0.now, items_view p.1.now)) result
         (first (items_view items.now)) }
 {
     match items.split_first() {
-        None => Err(Stop::BadShape),
+        None => Err(ShapeFault::BadShape),
         Some((json, rest)) => Ok((json, rest)),
     }
 }
 
 /// An argument, or none.
 #[tactic(auto, unfolding(crate::specs::Parts::if_any))]
-fn if_any(items: &[Json]) -> Result<Option<&Json>, Stop>
+fn if_any(items: &[Json]) -> Result<Option<&Json>, ShapeFault>
     ensures { Gives (λ o. option_map (λ json. view json.now) o) result
         (if_any (items_view items.now)) }
 {
@@ -251,7 +257,7 @@ fn if_any(items: &[Json]) -> Result<Option<&Json>, Stop>
 
 /// One argument.
 #[tactic(auto, unfolding(crate::specs::Parts::one))]
-pub fn one(items: &[Json]) -> Result<&Json, Stop>
+pub fn one(items: &[Json]) -> Result<&Json, ShapeFault>
     ensures { Gives (λ json. view json.now) result (one (items_view items.now)) }
 {
     let (json, rest) = first(items)?;
@@ -261,7 +267,7 @@ pub fn one(items: &[Json]) -> Result<&Json, Stop>
 
 /// One argument or two.
 #[tactic(auto, unfolding(crate::specs::Parts::one_or_two))]
-pub fn one_or_two(items: &[Json]) -> Result<(&Json, Option<&Json>), Stop>
+pub fn one_or_two(items: &[Json]) -> Result<(&Json, Option<&Json>), ShapeFault>
     ensures { Gives (λ p. (view p.0.now, option_map (λ json. view json.now) p.1)) result
         (one_or_two (items_view items.now)) }
 {
@@ -272,7 +278,7 @@ pub fn one_or_two(items: &[Json]) -> Result<(&Json, Option<&Json>), Stop>
 
 /// Two arguments, and a third that may be left out.
 #[tactic(auto, unfolding(crate::specs::Parts::two_or_three))]
-pub fn two_or_three(items: &[Json]) -> Result<(&Json, &Json, Option<&Json>), Stop>
+pub fn two_or_three(items: &[Json]) -> Result<(&Json, &Json, Option<&Json>), ShapeFault>
     ensures { Gives
         (λ p. (view p.0.now, view p.1.now, option_map (λ json. view json.now) p.2)) result
         (two_or_three (items_view items.now)) }
@@ -285,7 +291,7 @@ pub fn two_or_three(items: &[Json]) -> Result<(&Json, &Json, Option<&Json>), Sto
 
 /// Two arguments.
 #[tactic(auto, unfolding(crate::specs::Parts::two))]
-pub fn two(items: &[Json]) -> Result<(&Json, &Json), Stop>
+pub fn two(items: &[Json]) -> Result<(&Json, &Json), ShapeFault>
     ensures { Gives (λ p. (view p.0.now, view p.1.now)) result (two (items_view items.now)) }
 {
     let (json, rest) = first(items)?;
@@ -295,7 +301,7 @@ pub fn two(items: &[Json]) -> Result<(&Json, &Json), Stop>
 
 /// Three arguments.
 #[tactic(auto, unfolding(crate::specs::Parts::three))]
-pub fn three(items: &[Json]) -> Result<(&Json, &Json, &Json), Stop>
+pub fn three(items: &[Json]) -> Result<(&Json, &Json, &Json), ShapeFault>
     ensures { Gives (λ p. (view p.0.now, view p.1.now, view p.2.now)) result
         (three (items_view items.now)) }
 {
@@ -306,7 +312,7 @@ pub fn three(items: &[Json]) -> Result<(&Json, &Json, &Json), Stop>
 
 /// Four arguments.
 #[tactic(auto, unfolding(crate::specs::Parts::four))]
-pub fn four(items: &[Json]) -> Result<(&Json, &Json, &Json, &Json), Stop>
+pub fn four(items: &[Json]) -> Result<(&Json, &Json, &Json, &Json), ShapeFault>
     ensures { Gives (λ p. (view p.0.now, view p.1.now, view p.2.now, view p.3.now)) result
         (four (items_view items.now)) }
 {
@@ -317,7 +323,7 @@ pub fn four(items: &[Json]) -> Result<(&Json, &Json, &Json, &Json), Stop>
 
 /// Five arguments.
 #[tactic(auto, unfolding(crate::specs::Parts::five))]
-pub fn five(items: &[Json]) -> Result<(&Json, &Json, &Json, &Json, &Json), Stop>
+pub fn five(items: &[Json]) -> Result<(&Json, &Json, &Json, &Json, &Json), ShapeFault>
     ensures { Gives (λ p. (view p.0.now, view p.1.now, view p.2.now, view p.3.now, view p.4.now))
         result (five (items_view items.now)) }
 {
@@ -329,16 +335,16 @@ pub fn five(items: &[Json]) -> Result<(&Json, &Json, &Json, &Json, &Json), Stop>
 
 /// An object with no other keys than these, but maybe a comment, which is a text.
 #[tactic(auto, unfolding(crate::specs::Parts::fields_at))]
-pub fn fields(json: &Json, keys: &[&str]) -> Result<(), Stop>
+pub fn fields(json: &Json, keys: &[&str]) -> Result<(), ShapeFault>
     ensures { Gives (λ _. tt) result (fields_at (map (λ k. k.now) keys.now) (view json.now)) }
 {
     let Json::Object(members) = json else {
-        return Err(Stop::BadShape);
+        return Err(ShapeFault::BadShape);
     };
     if has_only(members, keys) && is_comment(json.get("comment")) {
         Ok(())
     } else {
-        Err(Stop::BadShape)
+        Err(ShapeFault::BadShape)
     }
 }
 

@@ -8,7 +8,7 @@ pub mod failure;
 pub mod leaf;
 pub mod leaving;
 pub mod limits;
-pub mod stop;
+pub mod shape_fault;
 pub mod table;
 pub mod value;
 pub mod versions;

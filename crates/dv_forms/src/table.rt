@@ -7,7 +7,7 @@ ghost use Rattle.dv_forms.specs.Table.{can_declare, with_declared};
 use crate::arguments::two_texts;
 use crate::declaration::Declaration;
 use crate::leaf::array;
-use crate::stop::Stop;
+use crate::shape_fault::ShapeFault;
 use dv_script::limits::MOST_CLASSES;
 use dv_value::class_fault::ClassFault;
 use dv_value::classes::Classes;
@@ -16,7 +16,7 @@ use serde_json::Value as Json;
 use std::alloc::Global;
 
 /// The classes that a script declares, which it may leave out.
-pub fn declarations(alloc: Global, json: Option<&Json>) -> Result<Items<Declaration>, Stop>
+pub fn declarations(alloc: Global, json: Option<&Json>) -> Result<Items<Declaration>, ShapeFault>
     ensures { Reads result (field [] (list_at declaration_at)
         (option_map (λ d. view d.now) json.entry)) }
 {
@@ -26,7 +26,7 @@ pub fn declarations(alloc: Global, json: Option<&Json>) -> Result<Items<Declarat
     }
 }
 
-fn each_declaration(alloc: Global, items: &[Json]) -> Result<Items<Declaration>, Stop>
+fn each_declaration(alloc: Global, items: &[Json]) -> Result<Items<Declaration>, ShapeFault>
     ensures { Reads result (each declaration_at (items_view items.now)) }
 {
     let mut declarations = Items::new(alloc);
@@ -37,7 +37,7 @@ fn each_declaration(alloc: Global, items: &[Json]) -> Result<Items<Declaration>,
 }
 
 #[tactic(auto, unfolding(crate::specs::Parts::declaration_at))]
-fn declaration(alloc: Global, json: &Json) -> Result<Declaration, Stop>
+fn declaration(alloc: Global, json: &Json) -> Result<Declaration, ShapeFault>
     ensures { Reads result (declaration_at (view json.now)) }
 {
     let (name, parent) = two_texts(alloc, array(json)?)?;
@@ -46,7 +46,7 @@ fn declaration(alloc: Global, json: &Json) -> Result<Declaration, Stop>
 
 /// The table of a script that declares these classes, and whether each of them may be declared.
 #[tactic(auto, unfolding(crate::specs::Parts::table_for, dv_value::specs::Builtin::builtin))]
-pub fn table(alloc: Global, declared: &[Declaration]) -> Result<(Classes, bool), Stop>
+pub fn table(alloc: Global, declared: &[Declaration]) -> Result<(Classes, bool), ShapeFault>
     ensures { Reads result (table_for declared.now) }
 {
     let mut classes = Classes::builtin(alloc)?;
@@ -63,7 +63,7 @@ pub fn table(alloc: Global, declared: &[Declaration]) -> Result<(Classes, bool),
 }
 
 /// Adds the class where it may be declared, and returns whether it may.
-fn declare(classes: &mut Classes, declaration: &Declaration) -> Result<bool, Stop>
+fn declare(classes: &mut Classes, declaration: &Declaration) -> Result<bool, ShapeFault>
     requires room { length classes.old + 1 < 2 ^ 32 }
     ensures told { Reads result (Some (can_declare classes.old declaration.now)) }
     ensures table { OnOk result (classes.new ≡ with_declared classes.old declaration.now) }
@@ -71,6 +71,6 @@ fn declare(classes: &mut Classes, declaration: &Declaration) -> Result<bool, Sto
     match classes.declare(declaration.name.as_str(), declaration.parent.as_str()) {
         Ok(_) => Ok(true),
         Err(ClassFault::Taken | ClassFault::NoParent) => Ok(false),
-        Err(ClassFault::OutOfMemory) => Err(Stop::OutOfMemory),
+        Err(ClassFault::OutOfMemory) => Err(ShapeFault::OutOfMemory),
     }
 }

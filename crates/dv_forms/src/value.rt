@@ -3,7 +3,7 @@ ghost use Rattle.dv_forms.specs.Answer.{Reads};
 ghost use Rattle.dv_forms.specs.Parts.{fault_at, member_at, members_at, value_at};
 
 use crate::failure::failure;
-use crate::stop::Stop;
+use crate::shape_fault::ShapeFault;
 use dv_value::boxed::Boxed;
 use dv_value::classes::Classes;
 use dv_value::items::Items;
@@ -13,20 +13,20 @@ use serde_json::Value as Json;
 use std::alloc::Global;
 
 /// A value: no object, and no number but integers of 64 bits.
-pub fn value(alloc: Global, classes: &Classes, json: &Json) -> Result<Value, Stop>
+pub fn value(alloc: Global, classes: &Classes, json: &Json) -> Result<Value, ShapeFault>
     ensures { Reads result (value_at classes.now (view json.now)) }
 {
     match json {
         Json::Null | Json::Bool(_) | Json::Number(_) | Json::String(_) | Json::Array(_) => member(
             alloc, classes, json,
         ),
-        Json::Object(_) => Err(Stop::BadShape),
+        Json::Object(_) => Err(ShapeFault::BadShape),
     }
 }
 
 /// A member of an array of a value: a value or a failure.
 #[cycle(value)]
-fn member(alloc: Global, classes: &Classes, json: &Json) -> Result<Value, Stop>
+fn member(alloc: Global, classes: &Classes, json: &Json) -> Result<Value, ShapeFault>
     ensures { Reads result (member_at classes.now (view json.now)) }
 {
     match json {
@@ -34,7 +34,7 @@ fn member(alloc: Global, classes: &Classes, json: &Json) -> Result<Value, Stop>
         Json::Bool(b) => Ok(Value::Bool(*b)),
         Json::Number(n) => match n.as_i64() {
             Some(n) => Ok(Value::Int(n)),
-            None => Err(Stop::BadShape),
+            None => Err(ShapeFault::BadShape),
         },
         Json::String(text) => Ok(Value::Text(Text::of(alloc, text.as_str())?)),
         Json::Array(items) => Ok(Value::List(members(alloc, classes, items.as_slice())?)),
@@ -43,7 +43,7 @@ fn member(alloc: Global, classes: &Classes, json: &Json) -> Result<Value, Stop>
 }
 
 #[cycle(value)]
-fn members(alloc: Global, classes: &Classes, items: &[Json]) -> Result<Items<Value>, Stop>
+fn members(alloc: Global, classes: &Classes, items: &[Json]) -> Result<Items<Value>, ShapeFault>
     ensures { Reads result (members_at classes.now (items_view items.now)) }
 {
     let mut values = Items::with_capacity(alloc, items.len())?;
@@ -55,7 +55,7 @@ fn members(alloc: Global, classes: &Classes, items: &[Json]) -> Result<Items<Val
 
 /// A failure, as a value.
 #[inline(never)]
-fn fault(alloc: Global, classes: &Classes, json: &Json) -> Result<Value, Stop>
+fn fault(alloc: Global, classes: &Classes, json: &Json) -> Result<Value, ShapeFault>
     ensures { Reads result (fault_at classes.now (view json.now)) }
 {
     let failure = failure(alloc, classes, json)?;

@@ -51,9 +51,9 @@ pub enum Leaf {
     Comment,
 }
 
-/// What an array of a word and its arguments may be.
+/// What kind of call an array of a word and its arguments is.
 #[derive(Clone, Copy, Drop)]
-pub enum Call {
+pub enum CallKind {
     Event,
     Action,
     Statement,
@@ -63,9 +63,9 @@ pub enum Call {
     Work,
 }
 
-/// What an array of two parts, of which none is a word, may be.
+/// What kind of pair an array of two parts is, of which none is a word.
 #[derive(Clone, Copy, Drop)]
-pub enum Pair {
+pub enum PairKind {
     Declaration,
     Pool,
     /// A name, and the body that it names.
@@ -109,12 +109,12 @@ pub enum Item {
 pub enum Want {
     Leaf(Leaf),
     Value,
-    Call(Call),
-    Pair(Pair),
+    Call(CallKind),
+    Pair(PairKind),
     Keyed(Keyed),
     Array(Item),
     /// The word with which such an array begins.
-    Word(Call),
+    Word(CallKind),
     /// The value of a key that such an object may not have.
     Other(Keyed),
 }
@@ -126,35 +126,38 @@ impl Item {
     {
         match self {
             Item::Value => Want::Value,
-            Item::Event => Want::Call(Call::Event),
-            Item::Action => Want::Call(Call::Action),
-            Item::Statement => Want::Call(Call::Statement),
+            Item::Event => Want::Call(CallKind::Event),
+            Item::Action => Want::Call(CallKind::Action),
+            Item::Statement => Want::Call(CallKind::Statement),
             Item::Body => Want::Keyed(Keyed::Body(FIRST_VERSION)),
             Item::Caller => Want::Array(Item::Body),
             Item::Deferred => Want::Leaf(Leaf::Found(Object::Deferred)),
             Item::Class => Want::Leaf(Leaf::Found(Object::Class)),
             Item::ListFlag => Want::Leaf(Leaf::ListFlag),
             Item::GatherFlag => Want::Leaf(Leaf::GatherFlag),
-            Item::Declaration => Want::Pair(Pair::Declaration),
-            Item::Pool => Want::Pair(Pair::Pool),
+            Item::Declaration => Want::Pair(PairKind::Declaration),
+            Item::Pool => Want::Pair(PairKind::Pool),
             Item::Place => Want::Leaf(Leaf::Number(0, MOST_PLACE as u64)),
-            Item::NamedBody => Want::Pair(Pair::Body),
+            Item::NamedBody => Want::Pair(PairKind::Body),
         }
     }
 }
 
-impl Pair {
+impl PairKind {
     /// What the places of its two parts ask for.
     pub fn wants(self) -> &'static [Want]
         ensures { result.now ≡ pair_wants self }
     {
         match self {
-            Pair::Declaration => &[Want::Leaf(Leaf::New(Object::Class)), Want::Leaf(Leaf::Text)],
-            Pair::Pool => &[
+            PairKind::Declaration => &[
+                Want::Leaf(Leaf::New(Object::Class)),
+                Want::Leaf(Leaf::Text),
+            ],
+            PairKind::Pool => &[
                 Want::Leaf(Leaf::New(Object::Pool)),
                 Want::Leaf(Leaf::Number(0, MOST_WORKERS as u64)),
             ],
-            Pair::Body => &[
+            PairKind::Body => &[
                 Want::Leaf(Leaf::New(Object::Body)),
                 Want::Keyed(Keyed::Body(FIRST_VERSION)),
             ],
@@ -203,7 +206,7 @@ fn body_want(since: u32, key: &str) -> Want
 {
     match key {
         "do" => Want::Array(Item::Action),
-        "end" => Want::Call(Call::End),
+        "end" => Want::Call(CallKind::End),
         "comment" => Want::Leaf(Leaf::Comment),
         _ => Want::Other(Keyed::Body(since)),
     }

@@ -1,13 +1,13 @@
 //! The words of the language: where each may stand, what comes with it, and since which version.
 
 ghost use Rattle.std.specs.Prelude.{◌≡◌, ◌≤◌, ℕ, true, option_map, map, IfSome};
-ghost use Rattle.dv_forms.specs.declared.want.Call.TheVariants.{Action as action};
+ghost use Rattle.dv_forms.specs.declared.want.CallKind.TheVariants.{Action as action};
 ghost use Rattle.dv_forms.specs.Words.{action_word, apart, end_word, event_word, has_word};
 ghost use Rattle.dv_forms.specs.Words.{may_stand, narrower, own_forms, seen, statement_word};
 ghost use Rattle.dv_forms.specs.Words.{wants_in, wants_of, work_word};
 
 use crate::versions::{FIRST_VERSION, TIMEOUTS_SINCE};
-use crate::want::{Call, Item, Keyed, Leaf, Object, Want};
+use crate::want::{CallKind, Item, Keyed, Leaf, Object, Want};
 use dv_clock::limits::{MOST_DELAY, MOST_TICKS};
 use dv_script::limits::{MOST_DRAINED, MOST_PLACES, MOST_SUM, MOST_UNITS};
 
@@ -154,7 +154,7 @@ const BODIES: Want = Want::Array(Item::Body);
 
 const STATEMENTS: Want = Want::Array(Item::Statement);
 
-const WORK: Want = Want::Call(Call::Work);
+const WORK: Want = Want::Call(CallKind::Work);
 
 /// The forms of the actions.
 pub const ACTION_FORMS: [Form<ActionWord>; 41] = [
@@ -452,7 +452,7 @@ pub const STATEMENT_FORMS: [Form<StatementWord>; 7] = [
     (
         StatementWord::Do,
         "do",
-        &[Want::Call(Call::Action)],
+        &[Want::Call(CallKind::Action)],
         "[\"do\",ACTION]",
         1,
     ),
@@ -482,7 +482,7 @@ pub const STATEMENT_FORMS: [Form<StatementWord>; 7] = [
     (
         StatementWord::End,
         "end",
-        &[Want::Call(Call::Leaving)],
+        &[Want::Call(CallKind::Leaving)],
         "[\"end\",END]",
         1,
     ),
@@ -554,13 +554,13 @@ pub const WORK_FORMS: [Form<WorkWord>; 3] = [
 ];
 
 /// The narrower place whose words may stand at such a place, too: an action is an event, for one.
-pub fn narrower(call: Call) -> Option<Call>
+pub fn narrower(call: CallKind) -> Option<CallKind>
     ensures { result ≡ narrower call }
 {
     match call {
-        Call::Event => Some(Call::Action),
-        Call::End => Some(Call::Leaving),
-        Call::Action | Call::Statement | Call::Leaving | Call::Work => None,
+        CallKind::Event => Some(CallKind::Action),
+        CallKind::End => Some(CallKind::Leaving),
+        CallKind::Action | CallKind::Statement | CallKind::Leaving | CallKind::Work => None,
     }
 }
 
@@ -649,25 +649,25 @@ fn action_form(word: &str, given: usize) -> Option<(&'static [Want], u32)>
 }
 
 /// The same of the forms at such a place, and at none narrower.
-fn own_form(call: Call, word: &str, given: usize) -> Option<(&'static [Want], u32)>
+fn own_form(call: CallKind, word: &str, given: usize) -> Option<(&'static [Want], u32)>
     ensures wants { option_map (λ form. form.0.now) result
         ≡ wants_in (own_forms call) word.now given }
     ensures since { IfSome result (λ form. (version : ℕ) → form.1 ≤ version
         → has_word (own_forms call) word.now version ≡ true) }
 {
     match call {
-        Call::Event => form_in(&EVENT_FORMS, word, given),
-        Call::Action => action_form(word, given),
-        Call::Statement => form_in(&STATEMENT_FORMS, word, given),
-        Call::End => form_in(&END_FORMS, word, given),
-        Call::Leaving => form_in(&LEAVING_FORMS, word, given),
-        Call::Work => form_in(&WORK_FORMS, word, given),
+        CallKind::Event => form_in(&EVENT_FORMS, word, given),
+        CallKind::Action => action_form(word, given),
+        CallKind::Statement => form_in(&STATEMENT_FORMS, word, given),
+        CallKind::End => form_in(&END_FORMS, word, given),
+        CallKind::Leaving => form_in(&LEAVING_FORMS, word, given),
+        CallKind::Work => form_in(&WORK_FORMS, word, given),
     }
 }
 
 /// What the arguments of a word have to be, where it may stand at such a place and has a form with
 /// so many, and the first version that has this form.
-pub fn form_of(call: Call, word: &str, given: usize) -> Option<(&'static [Want], u32)>
+pub fn form_of(call: CallKind, word: &str, given: usize) -> Option<(&'static [Want], u32)>
     ensures wants { option_map (λ form. form.0.now) result ≡ wants_of call word.now given }
     ensures since { IfSome result (λ form. (version : ℕ) → form.1 ≤ version
         → may_stand call word.now version ≡ true) }
@@ -683,7 +683,7 @@ pub fn form_of(call: Call, word: &str, given: usize) -> Option<(&'static [Want],
 
 /// What the arguments of a word have to be, where it may stand at such a place and has a form with
 /// so many.
-pub fn wants_of(call: Call, word: &str, given: usize) -> Option<&'static [Want]>
+pub fn wants_of(call: CallKind, word: &str, given: usize) -> Option<&'static [Want]>
     ensures { option_map (λ wants. wants.now) result ≡ wants_of call word.now given }
 {
     let (wants, _) = form_of(call, word, given)?;
@@ -701,21 +701,21 @@ fn has_word<W: Copy>(forms: &'static [Form<W>], word: &str, version: u32) -> boo
     false
 }
 
-fn may_stand_itself(call: Call, word: &str, version: u32) -> bool
+fn may_stand_itself(call: CallKind, word: &str, version: u32) -> bool
     ensures { result ≡ has_word (own_forms call) word.now version }
 {
     match call {
-        Call::Event => has_word(&EVENT_FORMS, word, version),
-        Call::Action => has_word(&ACTION_FORMS, word, version),
-        Call::Statement => has_word(&STATEMENT_FORMS, word, version),
-        Call::End => has_word(&END_FORMS, word, version),
-        Call::Leaving => has_word(&LEAVING_FORMS, word, version),
-        Call::Work => has_word(&WORK_FORMS, word, version),
+        CallKind::Event => has_word(&EVENT_FORMS, word, version),
+        CallKind::Action => has_word(&ACTION_FORMS, word, version),
+        CallKind::Statement => has_word(&STATEMENT_FORMS, word, version),
+        CallKind::End => has_word(&END_FORMS, word, version),
+        CallKind::Leaving => has_word(&LEAVING_FORMS, word, version),
+        CallKind::Work => has_word(&WORK_FORMS, word, version),
     }
 }
 
 /// Whether a word may stand at such a place in a script of this version, whatever comes with it.
-pub fn may_stand(call: Call, word: &str, version: u32) -> bool
+pub fn may_stand(call: CallKind, word: &str, version: u32) -> bool
     ensures { result ≡ may_stand call word.now version }
 {
     if may_stand_itself(call, word, version) {

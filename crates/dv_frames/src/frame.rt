@@ -33,12 +33,12 @@ pub enum Purpose<'s> {
 /// How far an inline body is.
 #[derive(Drop)]
 pub enum Inlining<'s> {
-    /// It goes on until it wants something, or is over.
+    /// It goes on up to its next request, or is over.
     Goes(Inline, InlineBody<'s>),
-    /// The action that it wanted has been performed, and its result is the answer.
+    /// The action that it requested has been performed, and its result is the answer.
     Acted(Inline, InlineBody<'s>),
-    /// The pair by which it awaits this Deferred has been added, and the Deferred settled. Where
-    /// what it awaits has come, it goes on; else it is parked.
+    /// The pair by which it awaits this Deferred has been added, and the Deferred settled. If its
+    /// result arrived meanwhile, the body goes on; else it is parked.
     Awaited(Inline, DeferredId, InlineBody<'s>),
 }
 

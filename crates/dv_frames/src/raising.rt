@@ -12,12 +12,12 @@ use dv_objects::performed::Performed;
 use std::alloc::AllocError;
 
 /// Logs the failure that was the result, where one was (Twisted: what `log.err` logs).
-pub fn tell_failure<'s>(turn: &mut Turn<'s>, came: Performed<'s>) -> Result<(), AllocError>
+pub fn tell_failure<'s>(turn: &mut Turn<'s>, performed: Performed<'s>) -> Result<(), AllocError>
     requires done { turn.old.performed ≡ Done }
     ensures { OnOk result
-        (turn.new ≡ done (told_of (failed_with came.entry) turn.old.world) onto turn.old) }
+        (turn.new ≡ done (told_of (failed_with performed.entry) turn.old.world) onto turn.old) }
 {
-    match came.into_failure(turn.alloc)? {
+    match performed.into_failure(turn.alloc)? {
         None => Ok(()),
         Some(failure) => turn.world.tell(Entry::Unhandled(failure)),
     }

@@ -201,8 +201,14 @@ module _ (table : List Class) (r : Readers) (sound : AreSound table r) where
       bind (number_at 0 MOST_DELAY p.1) _ x n_then (λ k k_is k_then.
       bind (if_there r.body p.2) _ x k_then (λ b b_is b_then.
       let same = some_injective o_then in
-      rw (first_is ds a a_is, first_is a.1 c c_is, ← some_injective b_then, ap (λ q. q.0) same, ap (λ q. q.1) same,
-      text_is p.0 n n_is)
+      rw (
+        first_is ds a a_is,
+        first_is a.1 c c_is,
+        ← some_injective b_then,
+        ap (λ q. q.0) same,
+        ap (λ q. q.1) same,
+        text_is p.0 n n_is,
+      )
       (sound_timeout p.1 n k (number_is 0 MOST_DELAY p.1 k k_is) c.1 p.2 b (o_is ∙ ap (λ q. Some q.2) same) b_is))))))))
 
   pub thread_in_read : (ds : Items) (x : Action) → thread_in_of table ds ≡ Some x

@@ -24,7 +24,8 @@ impl Draft {
         self.script
     }
 
-    /// Lets a draft go. Who does it by this call needs no proof of its own of what a script holds.
+    /// Drops a draft. Prefer this to an implicit drop: the caller's crate then doesn't re-prove how
+    /// its fields are dropped.
     pub fn discard(self) {
         drop(self);
     }

@@ -1,22 +1,23 @@
 -- Moves and answers lead where the recursion over the statements leads.
 use Rattle.std.proofs.Common.{◌≡◌, ℕ, List, [], ◌∷◌, map, Option, None, Some, refl, ap, ◌∙◌, sym, subst}
 use Rattle.dv_inline.specs.Leads.{inside_meant, through, reached_unless, reached, LeadsBy, LeadAlike, IsDue, Stands}
-use Rattle.dv_inline.specs.Leads.{ComesTo}
-use Rattle.dv_inline.specs.Meaning.{Reached, Wants, Over, past, thrown, left, wants, followed, caught, caught_by}
+use Rattle.dv_inline.specs.Leads.{ResultsIn}
+use Rattle.dv_inline.specs.Meaning.{Reached, Requests, Over, past, thrown, left, requests, followed, caught, caught_by}
 use Rattle.dv_inline.specs.Meaning.{finished}
 use Rattle.dv_inline.specs.Meaning.{do_meant, await_meant, raise_meant, caught_meant, raised, no_active, done_by}
 use Rattle.dv_inline.specs.Meaning.{in_order, statement_meant, meant, all_meant, ended, result_of, Meant}
-use Rattle.dv_inline.specs.Position.{Position, moved, moved_by, moved_in, moved_unless, outward, come, want_by, want_in}
-use Rattle.dv_inline.specs.Position.{want_unless, answered, answered_to, went_on, thrown_from, thrown_to, second_for}
+use Rattle.dv_inline.specs.Position.{Position, moved, moved_by, moved_in, moved_unless, outward, run_to_request}
+use Rattle.dv_inline.specs.Position.{request_by, request_in}
+use Rattle.dv_inline.specs.Position.{request_unless, answered, answered_to, went_on, thrown_from, thrown_to, second_for}
 use Rattle.dv_inline.specs.Position.{class_caught, active, ahead, left_to, left_from, caught_from, out_of}
 use Rattle.dv_inline.specs.declared.open.Catch.{Catch}
 use Rattle.dv_inline.specs.declared.open.Inside.{Inside}
 use Rattle.dv_inline.specs.declared.open.Inside.TheVariants as inside
 use Rattle.dv_inline.specs.declared.open.Onward.TheVariants as onward
 use Rattle.dv_inline.specs.declared.open.Open.{Open}
-use Rattle.dv_inline.specs.declared.want.Want.{Want}
-use Rattle.dv_inline.specs.declared.want.Want.TheVariants.{Do, Await}
-use Rattle.dv_inline.proofs.Moves.{come_kept, come_rests}
+use Rattle.dv_inline.specs.declared.request.Request.{Request}
+use Rattle.dv_inline.specs.declared.request.Request.TheVariants.{Do, Await}
+use Rattle.dv_inline.proofs.Moves.{run_kept, run_rests}
 use Rattle.dv_script.specs.declared.action.Action.{Action}
 use Rattle.dv_script.specs.declared.action.Action.TheOpen.{Statement-F}
 use Rattle.dv_script.specs.declared.action.Action.TheFolds.{para-Action, para-Body, para-roll-Statement}
@@ -82,19 +83,19 @@ module _ (table : List Class) where
       ap (meant table) (sym (roll-out-Statement s)) ∙ para-roll-Statement (Unit {0}) Meant (Unit {0}) (λ action. tt)
       (statement_meant table) (λ body. tt) (out-Statement s) ∙ layer_read (out-Statement s)
 
-  -- what is wanted goes through every `try` and `finally`
-  inside_wants : (place : Inside) (outer : Option Failure) (w : Want)
-      → inside_meant table place outer (wants w) ≡ wants w
-  inside_wants (inside.Try catch) outer w = refl
-  inside_wants (inside.Caught failure) outer w = refl
-  inside_wants (inside.Finally second) outer w = refl
-  inside_wants (inside.Ending how) outer w = refl
+  -- what is requested goes through every `try` and `finally`
+  inside_requests : (place : Inside) (outer : Option Failure) (w : Request)
+      → inside_meant table place outer (requests w) ≡ requests w
+  inside_requests (inside.Try catch) outer w = refl
+  inside_requests (inside.Caught failure) outer w = refl
+  inside_requests (inside.Finally second) outer w = refl
+  inside_requests (inside.Ending how) outer w = refl
 
-  through_wants : (opens : List Open) (w : Want) → through table opens (wants w) ≡ wants w
-  through_wants [] w = refl
-  through_wants (around ∷ opens) w =
+  through_requests : (opens : List Open) (w : Request) → through table opens (requests w) ≡ requests w
+  through_requests [] w = refl
+  through_requests (around ∷ opens) w =
       ap (λ flow. through table opens (followed flow (all_meant table around.rest (active opens))))
-      (inside_wants around.inside (active opens) w) ∙ through_wants opens w
+      (inside_requests around.inside (active opens) w) ∙ through_requests opens w
 
 -- from a statement, which means this, by what follows it
 abbrev on_from : Position → List Statement → List Value → Meant → Reached
@@ -218,9 +219,9 @@ alike_result (Some outcome) p n = tt
 alike : (p q : Position) → moved p ≡ Some q → LeadAlike p q
 alike p q h = subst (Alike p) h (alike_result p.result p refl)
 
-pub come_leads : (p : Position) → LeadAlike p (come p)
-come_leads p answers =
-    come_kept (λ u. reached u answers ≡ reached p answers) p (λ u v h k. alike u v h answers ∙ k) refl
+pub run_leads : (p : Position) → LeadAlike p (run_to_request p)
+run_leads p answers =
+    run_kept (λ u. reached u answers ≡ reached p answers) p (λ u v h k. alike u v h answers ∙ k) refl
 
 -- an answer leads on
 went_leads : (o : Option Failure) (v : Value) (s : Statement) (rest : List Statement) (p : Position) (more : List Value)
@@ -233,7 +234,7 @@ went_leads (Some failure) v s rest p more g n = thrown_leads failure p.opens p m
 
 leads_layer : (e : Statement-F Action Statement Body) (s : Statement) (rest : List Statement) (answer : Value)
     (p : Position) → meant p.classes s ≡ read p.classes e → p.statements ≡ s ∷ rest → p.result ≡ None
-    → (want_by e ≡ None → ⊥) → LeadsBy answer p (answered_to (want_by e) answer p)
+    → (request_by e ≡ None → ⊥) → LeadsBy answer p (answered_to (request_by e) answer p)
 leads_layer (Statement-F.Do action) s rest answer p h g n due =
     λ more.
     went_leads (failure_in answer) p.value s rest p more g n
@@ -249,13 +250,13 @@ leads_layer Statement-F.Caught s rest answer p h g n due = absurd (due refl)
 leads_layer (Statement-F.End e) s rest answer p h g n due = absurd (due refl)
 
 leads_statements : (ss : List Statement) (answer : Value) (p : Position) → p.statements ≡ ss → p.result ≡ None
-    → (want_in ss ≡ None → ⊥) → LeadsBy answer p (answered_to (want_in ss) answer p)
+    → (request_in ss ≡ None → ⊥) → LeadsBy answer p (answered_to (request_in ss) answer p)
 leads_statements [] answer p g n due = absurd (due refl)
 leads_statements (s ∷ rest) answer p g n due =
     leads_layer (out-Statement s) s rest answer p (meant_read p.classes s) g n due
 
-leads_result : (o : Option Value) (answer : Value) (p : Position) → p.result ≡ o → (want_unless o p ≡ None → ⊥)
-    → LeadsBy answer p (answered_to (want_unless o p) answer p)
+leads_result : (o : Option Value) (answer : Value) (p : Position) → p.result ≡ o → (request_unless o p ≡ None → ⊥)
+    → LeadsBy answer p (answered_to (request_unless o p) answer p)
 leads_result None answer p n due = leads_statements p.statements answer p refl n due
 leads_result (Some outcome) answer p n due = absurd (due refl)
 
@@ -265,38 +266,38 @@ answer_leads answer p due = leads_result p.result answer p refl due
 pub taken_leads : (answer : Value) (p q : Position) → q ≡ answered answer p → IsDue p → LeadsBy answer p q
 taken_leads answer p q h due more = rw h (answer_leads answer p due more)
 
--- where there is no move, and the body isn't over, a want stands, and there is no answer to it
-wants_layer : (e : Statement-F Action Statement Body) (s : Statement) (rest : List Statement) (p : Position)
+-- if there is no move, and the body isn't over, a request stands, and there is no answer to it
+requests_layer : (e : Statement-F Action Statement Body) (s : Statement) (rest : List Statement) (p : Position)
     → meant p.classes s ≡ read p.classes e → p.statements ≡ s ∷ rest → p.result ≡ None → moved_by e rest p ≡ None
-    → (w : Want) × (want_by e ≡ Some w) × (reached p [] ≡ Wants w)
-wants_layer (Statement-F.Do action) s rest p h g n m = (
+    → (w : Request) × (request_by e ≡ Some w) × (reached p [] ≡ Requests w)
+requests_layer (Statement-F.Do action) s rest p h g n m = (
   Do action,
   refl,
-  rw n (rw g (ap (on_from p rest []) h ∙ ap result_of (through_wants p.classes p.opens (Do action)))),
+  rw n (rw g (ap (on_from p rest []) h ∙ ap result_of (through_requests p.classes p.opens (Do action)))),
 )
-wants_layer (Statement-F.Await name) s rest p h g n m = (
+requests_layer (Statement-F.Await name) s rest p h g n m = (
   Await name,
   refl,
-  rw n (rw g (ap (on_from p rest []) h ∙ ap result_of (through_wants p.classes p.opens (Await name)))),
+  rw n (rw g (ap (on_from p rest []) h ∙ ap result_of (through_requests p.classes p.opens (Await name)))),
 )
-wants_layer (Statement-F.Try first listed second) s rest p h g n m = absurd cc
-wants_layer (Statement-F.Finally first second) s rest p h g n m = absurd cc
-wants_layer Statement-F.Raise s rest p h g n m = absurd cc
-wants_layer Statement-F.Caught s rest p h g n m = absurd cc
-wants_layer (Statement-F.End e) s rest p h g n m = absurd cc
+requests_layer (Statement-F.Try first listed second) s rest p h g n m = absurd cc
+requests_layer (Statement-F.Finally first second) s rest p h g n m = absurd cc
+requests_layer Statement-F.Raise s rest p h g n m = absurd cc
+requests_layer Statement-F.Caught s rest p h g n m = absurd cc
+requests_layer (Statement-F.End e) s rest p h g n m = absurd cc
 
-wants_statements : (ss : List Statement) (p : Position) → p.statements ≡ ss → p.result ≡ None → moved_in ss p ≡ None
-    → (w : Want) × (want_in ss ≡ Some w) × (reached p [] ≡ Wants w)
-wants_statements [] p g n m = absurd cc
-wants_statements (s ∷ rest) p g n m = wants_layer (out-Statement s) s rest p (meant_read p.classes s) g n m
+requests_statements : (ss : List Statement) (p : Position) → p.statements ≡ ss → p.result ≡ None → moved_in ss p ≡ None
+    → (w : Request) × (request_in ss ≡ Some w) × (reached p [] ≡ Requests w)
+requests_statements [] p g n m = absurd cc
+requests_statements (s ∷ rest) p g n m = requests_layer (out-Statement s) s rest p (meant_read p.classes s) g n m
 
-wants_result : (o : Option Value) (p : Position) → p.result ≡ o → o ≡ None → moved_unless o p ≡ None
-    → (w : Want) × (want_unless o p ≡ Some w) × (reached p [] ≡ Wants w)
-wants_result None p n e m = wants_statements p.statements p refl n m
-wants_result (Some outcome) p n e m = absurd cc
+requests_result : (o : Option Value) (p : Position) → p.result ≡ o → o ≡ None → moved_unless o p ≡ None
+    → (w : Request) × (request_unless o p ≡ Some w) × (reached p [] ≡ Requests w)
+requests_result None p n e m = requests_statements p.statements p refl n m
+requests_result (Some outcome) p n e m = absurd cc
 
-pub wants_here : (p : Position) → moved p ≡ None → p.result ≡ None → Stands p
-wants_here p m n = wants_result p.result p refl n m
+pub requests_here : (p : Position) → moved p ≡ None → p.result ≡ None → Stands p
+requests_here p m n = requests_result p.result p refl n m
 
 -- the body is over with its result
 abbrev value_or : Value → Option Value → Value
@@ -307,8 +308,8 @@ over_result : (o : Option Value) (p : Position) (v : Value) → o ≡ Some v →
 over_result None p v h = absurd cc
 over_result (Some outcome) p v h = ap (λ o. Over (value_or v o)) h
 
-pub come_ends : (p : Position) (v : Value) → (come p).result ≡ Some v → ComesTo p v
-come_ends p v h = sym (come_leads p []) ∙ over_result (come p).result (come p) v h
+pub run_ends : (p : Position) (v : Value) → (run_to_request p).result ≡ Some v → ResultsIn p v
+run_ends p v h = sym (run_leads p []) ∙ over_result (run_to_request p).result (run_to_request p) v h
 
-pub come_wants : (p : Position) → (come p).result ≡ None → Stands (come p)
-come_wants p n = wants_here (come p) (come_rests p) n
+pub run_requests : (p : Position) → (run_to_request p).result ≡ None → Stands (run_to_request p)
+run_requests p n = requests_here (run_to_request p) (run_rests p) n

@@ -5,7 +5,8 @@ use Rattle.std.proofs.Common.{ap, ◌∙◌, sym, subst}
 use Rattle.dv_inline.specs.Meaning.{ended, no_active, raised}
 use Rattle.dv_inline.specs.Position.{Position, Moves, moved, moved_by, moved_in, moved_unless, outward, statement_step}
 use Rattle.dv_inline.specs.Position.{statement_size, statements_size, inside_size, opens_size, result_size}
-use Rattle.dv_inline.specs.Position.{position_size, goes_on, come_within, come, active, ahead, class_caught, second_for}
+use Rattle.dv_inline.specs.Position.{position_size, goes_on, run_within, run_to_request, active, ahead, class_caught}
+use Rattle.dv_inline.specs.Position.{second_for}
 use Rattle.dv_inline.specs.Position.{thrown_to, thrown_from, left_to, left_from, caught_from, out_of}
 use Rattle.dv_inline.specs.declared.open.Inside.{Inside}
 use Rattle.dv_inline.specs.declared.open.Inside.TheVariants as inside
@@ -136,18 +137,18 @@ move_falls p q h = subst (Falls p) h (falls p)
 
 -- as many moves as there are lead to one place, however many more are allowed
 enough_by : (n m : ℕ) (p : Position) (o : Option Position)
-    → ((q : Position) → position_size q < position_size p → come_within n q ≡ come_within m q) → Falls p o
-    → goes_on (come_within n) p o ≡ goes_on (come_within m) p o
+    → ((q : Position) → position_size q < position_size p → run_within n q ≡ run_within m q) → Falls p o
+    → goes_on (run_within n) p o ≡ goes_on (run_within m) p o
 enough_by n m p None h f = refl
 enough_by n m p (Some q) h f = h q f
 
 stays_by : (m : ℕ) (p : Position) (o : Option Position) → position_size p ≤ 0 → Falls p o
-    → p ≡ goes_on (come_within m) p o
+    → p ≡ goes_on (run_within m) p o
 stays_by m p None h f = refl
 stays_by m p (Some q) h f = absurd (omega (arith, h, f))
 
-enough : (n m : ℕ) (p : Position) → position_size p ≤ n → position_size p ≤ m → come_within n p ≡ come_within m p
-unfolding come_within
+enough : (n m : ℕ) (p : Position) → position_size p ≤ n → position_size p ≤ m → run_within n p ≡ run_within m p
+unfolding run_within
 enough zero zero p h k = refl
 enough zero (suc m) p h k = stays_by m p (moved p) h (falls p)
 enough (suc n) zero p h k = sym (stays_by n p (moved p) k (falls p))
@@ -155,46 +156,46 @@ enough (suc n) (suc m) p h k =
     enough_by n m p (moved p) (λ q f. enough n m q (omega (arith, h, f)) (omega (arith, k, f))) (falls p)
 
 one_more : (n : ℕ) (p q : Position) → moved p ≡ Some q → position_size p ≤ suc n
-    → come_within (suc n) p ≡ come_within n q
-unfolding come_within
-one_more n p q h k = ap (goes_on (come_within n) p) h
+    → run_within (suc n) p ≡ run_within n q
+unfolding run_within
+one_more n p q h k = ap (goes_on (run_within n) p) h
 
 -- a move keeps where the moves lead to
-pub come_keeps : (p q : Position) → moved p ≡ Some q → come q ≡ come p
-unfolding come
-come_keeps p q h =
+pub run_keeps : (p q : Position) → moved p ≡ Some q → run_to_request q ≡ run_to_request p
+unfolding run_to_request
+run_keeps p q h =
     let less = move_falls p q h in
     enough (position_size q) (position_size p) q (omega arith) (omega (arith, less))
     ∙ sym (one_more (position_size p) p q h (omega arith))
     ∙ enough (suc (position_size p)) (position_size p) p (omega arith) (omega arith)
 
-stands_by : (n : ℕ) (p : Position) → moved p ≡ None → come_within n p ≡ p
-unfolding come_within
+stands_by : (n : ℕ) (p : Position) → moved p ≡ None → run_within n p ≡ p
+unfolding run_within
 stands_by zero p h = refl
-stands_by (suc n) p h = ap (goes_on (come_within n) p) h
+stands_by (suc n) p h = ap (goes_on (run_within n) p) h
 
 -- where there is no move, they lead to where one stands
-pub come_stands : (p : Position) → moved p ≡ None → come p ≡ p
-unfolding come
-come_stands p h = stands_by (position_size p) p h
+pub run_stands : (p : Position) → moved p ≡ None → run_to_request p ≡ p
+unfolding run_to_request
+run_stands p h = stands_by (position_size p) p h
 
 -- what moves keep holds where they lead to
 keeps_on : (P : Position → Type 0) (n : ℕ) (p : Position) (o : Option Position) → moved p ≡ o
-    → ((u v : Position) → moved u ≡ Some v → P u → P v) → ((q : Position) → P q → P (come_within n q)) → P p
-    → P (goes_on (come_within n) p o)
+    → ((u v : Position) → moved u ≡ Some v → P u → P v) → ((q : Position) → P q → P (run_within n q)) → P p
+    → P (goes_on (run_within n) p o)
 keeps_on P n p None e h next k = k
 keeps_on P n p (Some q) e h next k = next q (h p q e k)
 
 keeps_by : (P : Position → Type 0) (n : ℕ) (p : Position) → ((u v : Position) → moved u ≡ Some v → P u → P v) → P p
-    → P (come_within n p)
-unfolding come_within
+    → P (run_within n p)
+unfolding run_within
 keeps_by P zero p h k = k
 keeps_by P (suc n) p h k = keeps_on P n p (moved p) refl h (λ q l. keeps_by P n q h l) k
 
-pub come_kept : (P : Position → Type 0) (p : Position) → ((u v : Position) → moved u ≡ Some v → P u → P v) → P p
-    → P (come p)
-unfolding come
-come_kept P p h k = keeps_by P (position_size p) p h k
+pub run_kept : (P : Position → Type 0) (p : Position) → ((u v : Position) → moved u ≡ Some v → P u → P v) → P p
+    → P (run_to_request p)
+unfolding run_to_request
+run_kept P p h k = keeps_by P (position_size p) p h k
 
 -- they lead to where there is none
 none_by : (p : Position) (o : Option Position) → position_size p ≤ 0 → Falls p o → o ≡ None
@@ -202,29 +203,29 @@ none_by p None h f = refl
 none_by p (Some q) h f = absurd (omega (arith, h, f))
 
 rests_on : (n : ℕ) (p : Position) (o : Option Position) → moved p ≡ o
-    → ((q : Position) → position_size q < position_size p → moved (come_within n q) ≡ None) → Falls p o
-    → moved (goes_on (come_within n) p o) ≡ None
+    → ((q : Position) → position_size q < position_size p → moved (run_within n q) ≡ None) → Falls p o
+    → moved (goes_on (run_within n) p o) ≡ None
 rests_on n p None e next f = e
 rests_on n p (Some q) e next f = next q f
 
-rests_by : (n : ℕ) (p : Position) → position_size p ≤ n → moved (come_within n p) ≡ None
-unfolding come_within
+rests_by : (n : ℕ) (p : Position) → position_size p ≤ n → moved (run_within n p) ≡ None
+unfolding run_within
 rests_by zero p h = none_by p (moved p) h (falls p)
 rests_by (suc n) p h = rests_on n p (moved p) refl (λ q f. rests_by n q (omega (arith, h, f))) (falls p)
 
-pub come_rests : (p : Position) → moved (come p) ≡ None
-unfolding come
-come_rests p = rests_by (position_size p) p (omega arith)
+pub run_rests : (p : Position) → moved (run_to_request p) ≡ None
+unfolding run_to_request
+run_rests p = rests_by (position_size p) p (omega arith)
 
-pub come_twice : (p : Position) → come (come p) ≡ come p
-come_twice p = come_stands (come p) (come_rests p)
+pub run_twice : (p : Position) → run_to_request (run_to_request p) ≡ run_to_request p
+run_twice p = run_stands (run_to_request p) (run_rests p)
 
 -- a step of the loop, and its end
 pub step_smaller : (p q : Position) → Moves true p q → position_size q < position_size p
 step_smaller p q h = move_falls p q h
 
-pub step_keeps : (p q : Position) → Moves true p q → come q ≡ come p
-step_keeps p q h = come_keeps p q h
+pub step_keeps : (p q : Position) → Moves true p q → run_to_request q ≡ run_to_request p
+step_keeps p q h = run_keeps p q h
 
-pub last_step : (p q : Position) → Moves false p q → q ≡ come p
-last_step p q h = h.1 ∙ sym (come_stands p h.0)
+pub last_step : (p q : Position) → Moves false p q → q ≡ run_to_request p
+last_step p q h = h.1 ∙ sym (run_stands p h.0)

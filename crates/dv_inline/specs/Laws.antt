@@ -1,8 +1,8 @@
 -- Where a body stands, by which it is performed, and the recursion over its statements say the same.
 use Rattle.std.specs.Prelude.{◌≡◌, List, Some, None}
-use Rattle.dv_inline.specs.Leads.{reached, LeadsBy, LeadAlike, IsDue, Stands, ComesTo}
+use Rattle.dv_inline.specs.Leads.{reached, LeadsBy, LeadAlike, IsDue, Stands, ResultsIn}
 use Rattle.dv_inline.specs.Meaning.{inline}
-use Rattle.dv_inline.specs.Position.{Position, started, come, answered}
+use Rattle.dv_inline.specs.Position.{Position, started, run_to_request, answered}
 use Rattle.dv_script.specs.declared.body.Statement.{Statement}
 use Rattle.dv_value.specs.declared.classes.Class.{Class}
 use Rattle.dv_value.specs.declared.value.Value.{Value}
@@ -15,15 +15,15 @@ BodiesBeginThere =
 
 -- the moves that need no answer change nothing of that
 abbrev pub MovesLeadOn : Type 0
-MovesLeadOn = (p : Position) → LeadAlike p (come p)
+MovesLeadOn = (p : Position) → LeadAlike p (run_to_request p)
 
 -- where they end the body is over with its result
 abbrev pub ResultsAreReached : Type 0
-ResultsAreReached = (p : Position) (v : Value) → (come p).result ≡ Some v → ComesTo p v
+ResultsAreReached = (p : Position) (v : Value) → (run_to_request p).result ≡ Some v → ResultsIn p v
 
--- or a want stands, to which there is no answer
-abbrev pub WantsStand : Type 0
-WantsStand = (p : Position) → (come p).result ≡ None → Stands (come p)
+-- or a request stands, to which there is no answer
+abbrev pub RequestsStand : Type 0
+RequestsStand = (p : Position) → (run_to_request p).result ≡ None → Stands (run_to_request p)
 
 -- every list of answers leads from where an answer has led as that answer and they led from before
 abbrev pub AnswersLeadOn : Type 0

@@ -1,14 +1,14 @@
 -- What a position leads to by answers: what is inside the tries and finallys round it, and then what follows them.
 use Rattle.std.specs.Prelude.{◌≡◌, List, [], ◌∷◌, Option, None, Some}
-use Rattle.dv_inline.specs.Meaning.{Reached, Wants, Over, Flow, past, thrown, left, followed, caught, finished}
+use Rattle.dv_inline.specs.Meaning.{Reached, Requests, Over, Flow, past, thrown, left, followed, caught, finished}
 use Rattle.dv_inline.specs.Meaning.{all_meant, result_of}
-use Rattle.dv_inline.specs.Position.{Position, active, want_at}
+use Rattle.dv_inline.specs.Position.{Position, active, request_at}
 use Rattle.dv_inline.specs.declared.open.Inside.{Inside}
 use Rattle.dv_inline.specs.declared.open.Inside.TheVariants as inside
 use Rattle.dv_inline.specs.declared.open.Onward.{Onward}
 use Rattle.dv_inline.specs.declared.open.Onward.TheVariants as onward
 use Rattle.dv_inline.specs.declared.open.Open.{Open}
-use Rattle.dv_inline.specs.declared.want.Want.{Want}
+use Rattle.dv_inline.specs.declared.request.Request.{Request}
 use Rattle.dv_value.specs.declared.classes.Class.{Class}
 use Rattle.dv_value.specs.declared.failure.Failure.{Failure}
 use Rattle.dv_value.specs.declared.value.Value.{Value}
@@ -52,12 +52,12 @@ LeadAlike p q = (answers : List Value) → reached q answers ≡ reached p answe
 
 -- an answer is due at a position
 abbrev pub IsDue : Position → Type 0
-IsDue p = want_at p ≡ None → ⊥
+IsDue p = request_at p ≡ None → ⊥
 
--- a want stands at a position, and there is no answer to it
+-- a request stands at a position, and there is no answer to it
 abbrev pub Stands : Position → Type 0
-Stands p = (w : Want) × (want_at p ≡ Some w) × (reached p [] ≡ Wants w)
+Stands p = (w : Request) × (request_at p ≡ Some w) × (reached p [] ≡ Requests w)
 
--- a position leads to this result with no further answer
-abbrev pub ComesTo : Position → Value → Type 0
-ComesTo p v = reached p [] ≡ Over v
+-- a position results in this with no further answer
+abbrev pub ResultsIn : Position → Value → Type 0
+ResultsIn p v = reached p [] ≡ Over v

@@ -1,8 +1,8 @@
 -- The result of an inline body by the answers that it gets, in order: a recursion over its statements (Twisted:
 -- `inlineCallbacks`).
 use Rattle.std.specs.Prelude.{ℕ, List, [], ◌∷◌, map, Option, None, Some, codes}
-use Rattle.dv_inline.specs.declared.want.Want.{Want}
-use Rattle.dv_inline.specs.declared.want.Want.TheVariants.{Do, Await}
+use Rattle.dv_inline.specs.declared.request.Request.{Request}
+use Rattle.dv_inline.specs.declared.request.Request.TheVariants.{Do, Await}
 use Rattle.dv_script.specs.declared.action.Action.{Action}
 use Rattle.dv_script.specs.declared.action.Action.TheOpen.{Statement-F}
 use Rattle.dv_script.specs.declared.action.Action.TheFolds.{para-Statement}
@@ -21,8 +21,8 @@ use Rattle.dv_value.specs.declared.value.Value.{Value, Null, Fault, List as List
 
 -- where an inline body stands
 pub data Reached : Type 0 where
-  -- it wants this
-  Wants : Want → Reached
+  -- it requests this
+  Requests : Request → Reached
   -- it is over, with what fires its Deferred
   Over : Value → Reached
 
@@ -35,7 +35,7 @@ pub data Flow : Type 0 where
   -- an end leaves the body with this, and these answers are left
   left : Value → List Value → Flow
   -- there is no answer to this
-  wants : Want → Flow
+  requests : Request → Flow
 
 -- what comes next, by the present value and the answers
 abbrev pub Next : Type 0
@@ -50,7 +50,7 @@ abbrev pub followed : Flow → Next → Flow
 followed (past v answers) next = next v answers
 followed (thrown failure answers) next = thrown failure answers
 followed (left v answers) next = left v answers
-followed (wants want) next = wants want
+followed (requests request) next = requests request
 
 -- one after the other
 abbrev pub in_order : List Meant → Meant
@@ -63,12 +63,12 @@ done_by None v answers = past v answers
 done_by (Some failure) v answers = thrown failure answers
 
 abbrev pub do_meant : Action → Meant
-do_meant action active v [] = wants (Do action)
+do_meant action active v [] = requests (Do action)
 do_meant action active v (answer ∷ answers) = done_by (failure_in answer) v answers
 
 -- the answer to an `await`: a failure is thrown, and anything else becomes the present value
 abbrev pub await_meant : List ℕ → Meant
-await_meant name active v [] = wants (Await name)
+await_meant name active v [] = requests (Await name)
 await_meant name active v (answer ∷ answers) = done_by (failure_in answer) answer answers
 
 -- a failure of a class that was found begins the second statements on null, in which it is active; another is thrown on
@@ -83,7 +83,7 @@ caught table listed second (past v answers) = past v answers
 caught table listed second (thrown failure answers) =
     caught_by (check table (class_of failure) listed) second failure answers
 caught table listed second (left v answers) = left v answers
-caught table listed second (wants want) = wants want
+caught table listed second (requests request) = requests request
 
 -- after the first statements of a `finally` the second run, on null, however the first ended. A failure that was thrown
 -- is active in them. After the last of them it goes on as the first ended; a failure that is thrown in them, or an end
@@ -93,7 +93,7 @@ finished second active (past v answers) = followed (second active Null answers) 
 finished second active (thrown failure answers) =
     followed (second (Some failure) Null answers) (λ w more. thrown failure more)
 finished second active (left v answers) = followed (second active Null answers) (λ w more. left v more)
-finished second active (wants want) = wants want
+finished second active (requests request) = requests request
 
 -- what is thrown where no failure is active
 abbrev pub no_active : Failure
@@ -150,9 +150,9 @@ abbrev pub result_of : Flow → Reached
 result_of (past v answers) = Over Null
 result_of (thrown failure answers) = Over (Fault failure)
 result_of (left v answers) = Over v
-result_of (wants want) = Wants want
+result_of (requests request) = Requests request
 
--- an inline body begins on null, with no active failure: it is over with a result, or it wants what there is no answer
--- to
+-- an inline body begins on null, with no active failure: it is over with a result, or it requests what there is no
+-- answer to
 abbrev pub inline : List Class → List Statement → List Value → Reached
 inline table statements answers = result_of (all_meant table statements None Null answers)

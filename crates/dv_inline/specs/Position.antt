@@ -8,8 +8,8 @@ use Rattle.dv_inline.specs.declared.open.Inside.TheVariants as inside
 use Rattle.dv_inline.specs.declared.open.Onward.{Onward}
 use Rattle.dv_inline.specs.declared.open.Onward.TheVariants as onward
 use Rattle.dv_inline.specs.declared.open.Open.{Open}
-use Rattle.dv_inline.specs.declared.want.Want.{Want}
-use Rattle.dv_inline.specs.declared.want.Want.TheVariants.{Do, Await}
+use Rattle.dv_inline.specs.declared.request.Request.{Request}
+use Rattle.dv_inline.specs.declared.request.Request.TheVariants.{Do, Await}
 use Rattle.dv_script.specs.declared.action.Action.{Action}
 use Rattle.dv_script.specs.declared.action.Action.TheOpen.{Statement-F}
 use Rattle.dv_script.specs.declared.action.Action.TheFolds.{fold-Statement}
@@ -215,34 +215,34 @@ abbrev pub goes_on : (Position → Position) → Position → Option Position �
 goes_on go p None = p
 goes_on go p (Some next) = go next
 
-unfoldable pub come_within : ℕ → Position → Position
-come_within zero p = p
-come_within (suc n) p = goes_on (come_within n) p (moved p)
+unfoldable pub run_within : ℕ → Position → Position
+run_within zero p = p
+run_within (suc n) p = goes_on (run_within n) p (moved p)
 
--- where the moves that need no answer lead to
-unfoldable pub come : Position → Position
-come p = come_within (position_size p) p
+-- up to the next request, or to the end: all moves that need no answer
+unfoldable pub run_to_request : Position → Position
+run_to_request p = run_within (position_size p) p
 
--- the want that stands at a position
-abbrev pub want_by : Statement-F Action Statement Body → Option Want
-want_by (Statement-F.Do action) = Some (Do action)
-want_by (Statement-F.Await name) = Some (Await name)
-want_by (Statement-F.Try first listed second) = None
-want_by (Statement-F.Finally first second) = None
-want_by Statement-F.Raise = None
-want_by Statement-F.Caught = None
-want_by (Statement-F.End e) = None
+-- the request that stands at a position
+abbrev pub request_by : Statement-F Action Statement Body → Option Request
+request_by (Statement-F.Do action) = Some (Do action)
+request_by (Statement-F.Await name) = Some (Await name)
+request_by (Statement-F.Try first listed second) = None
+request_by (Statement-F.Finally first second) = None
+request_by Statement-F.Raise = None
+request_by Statement-F.Caught = None
+request_by (Statement-F.End e) = None
 
-abbrev pub want_in : List Statement → Option Want
-want_in [] = None
-want_in (statement ∷ rest) = want_by (out-Statement statement)
+abbrev pub request_in : List Statement → Option Request
+request_in [] = None
+request_in (statement ∷ rest) = request_by (out-Statement statement)
 
-abbrev pub want_unless : Option Value → Position → Option Want
-want_unless None p = want_in p.statements
-want_unless (Some result) p = None
+abbrev pub request_unless : Option Value → Position → Option Request
+request_unless None p = request_in p.statements
+request_unless (Some result) p = None
 
-abbrev pub want_at : Position → Option Want
-want_at p = want_unless p.result p
+abbrev pub request_at : Position → Option Request
+request_at p = request_unless p.result p
 
 -- past the first statement, with this present value
 abbrev pub passed : Value → Position → Position
@@ -254,15 +254,15 @@ went_on None v p = passed v p
 went_on (Some failure) v p = thrown_from failure p.opens p
 
 -- what the answer is to: a `do` keeps the present value, an `await` takes the answer for it
-abbrev pub answered_to : Option Want → Value → Position → Position
+abbrev pub answered_to : Option Request → Value → Position → Position
 answered_to None answer p = p
 answered_to (Some (Do action)) answer p = went_on (failure_in answer) p.value p
 answered_to (Some (Await name)) answer p = went_on (failure_in answer) answer p
 
 abbrev pub answered : Value → Position → Position
-answered answer p = answered_to (want_at p) answer p
+answered answer p = answered_to (request_at p) answer p
 
 -- what a body returns by itself: the result that it reaches with no further answer
 abbrev pub Gives : Position → Result Value AllocError → Type 0
-Gives p (Ok v) = (come p).result ≡ Some v
+Gives p (Ok v) = (run_to_request p).result ≡ Some v
 Gives p (Err e) = Unit {0}

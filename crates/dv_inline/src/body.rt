@@ -1,10 +1,10 @@
 ghost use Rattle.std.specs.Prelude.{◌≡◌, None, IfOk, OnOk};
 ghost use Rattle.dv_inline.specs.Leads.{reached, LeadsBy, LeadAlike, IsDue};
 ghost use Rattle.dv_inline.specs.Meaning.{inline};
-ghost use Rattle.dv_inline.specs.Position.{started, come, answered, want_at};
+ghost use Rattle.dv_inline.specs.Position.{started, run_to_request, answered, request_at};
 
+use crate::request::Request;
 use crate::walk::Walk;
-use crate::want::Want;
 use dv_script::body::Statement;
 use dv_value::classes::Classes;
 use dv_value::value::Value;
@@ -13,9 +13,9 @@ use futures::task::{Context, Poll};
 use std::alloc::{AllocError, Global};
 use std::marker::Model;
 
-/// An inline body that is performed: the statements that are left, the tries and finallys round
-/// them, and the present value (Twisted: the generator of `inlineCallbacks`). It is on the heap, so
-/// that whoever holds one holds an address.
+/// An inline body that runs: the statements that are left, the tries and finallys round them, and
+/// the present value (Twisted: the generator of `inlineCallbacks`). It is on the heap, so that a
+/// frame holds an address.
 #[derive(Drop)]
 pub struct InlineBody<'s> {
     walk: Box<Walk<'s>>,
@@ -59,12 +59,12 @@ impl<'s> InlineBody<'s> {
         })
     }
 
-    /// The action or the name of the first statement that is left: None where `poll` has a move to
-    /// make before, and once the body is over.
-    pub fn want(&self) -> Option<Want<'s>>
-        ensures { result ≡ want_at self.now }
+    /// What the body requests by the first statement that is left, an action or a name: None if
+    /// `poll` has a move to make first, and once the body is over.
+    pub fn request(&self) -> Option<Request<'s>>
+        ensures { result ≡ request_at self.now }
     {
-        self.walk.want()
+        self.walk.request()
     }
 
     /// Goes on with the answer to what stands: a failure is thrown there, and goes to the innermost
@@ -84,7 +84,7 @@ impl<'s> Future for InlineBody<'s> {
     /// The result of the body: the value or the failure that fires its Deferred.
     type Output = Result<Value, AllocError>;
 
-    ghost use Rattle.dv_inline.specs.Leads.{ComesTo, Stands};
+    ghost use Rattle.dv_inline.specs.Leads.{ResultsIn, Stands};
     ghost use Rattle.dv_inline.specs.Position.{Gives};
     ghost use Rattle.futures.specs.Poll.{IfReady, OnPending};
     ghost use Rattle.std.specs.Prelude.{⊤};
@@ -92,14 +92,14 @@ impl<'s> Future for InlineBody<'s> {
 
     ghost gives = { λ b out. Gives b out };
 
-    /// Goes on until an answer is wanted, and is pending there, or until the body is over. Each
-    /// poll yields: what a body wants is asked for by `want`. After a result, or AllocError, the
-    /// body can only be dropped.
-    #[tactic(auto, using(crate::proofs::LeadsLemmas::come_ends, crate::proofs::LeadsLemmas::come_wants, crate::proofs::LeadsLemmas::come_leads, crate::proofs::Moves::come_twice))]
+    /// Runs up to the next request, and is pending there, or to the end of the body. Each poll
+    /// yields: `request` returns what the body requests. After a result, or AllocError, the body
+    /// can only be dropped.
+    #[tactic(auto, using(crate::proofs::LeadsLemmas::run_ends, crate::proofs::LeadsLemmas::run_requests, crate::proofs::LeadsLemmas::run_leads, crate::proofs::Moves::run_twice))]
     fn poll(&mut self, cx: &mut Context<'_>) -> Poll<Result<Value, AllocError>>
         ensures value { IfReady result (Gives self.old) }
-        ensures outcome { IfReady result (λ out. IfOk out (ComesTo self.old)) }
-        ensures comes { OnPending result (self.new ≡ come self.old) }
+        ensures outcome { IfReady result (λ out. IfOk out (ResultsIn self.old)) }
+        ensures runs { OnPending result (self.new ≡ run_to_request self.old) }
         ensures going { OnPending result (self.new.result ≡ None) }
         ensures stands { OnPending result (Stands self.new) }
         ensures same { OnPending result (LeadAlike self.old self.new) }
@@ -108,7 +108,7 @@ impl<'s> Future for InlineBody<'s> {
         ensures registered { OnPending result (Covers cx.new (λ _. ⊥)) }
         ensures kept { Keeps cx.old cx.new }
     {
-        if self.walk.come().is_err() {
+        if self.walk.run_to_request().is_err() {
             return Poll::Ready(Err(AllocError));
         }
         match self.walk.take_result() {

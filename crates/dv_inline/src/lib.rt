@@ -8,5 +8,5 @@ pub mod open;
 pub mod opens;
 pub mod parked;
 pub mod poller;
+pub mod request;
 mod walk;
-pub mod want;

@@ -1,6 +1,6 @@
 ghost use Rattle.std.specs.Prelude.{◌≡◌, None, IfOk};
-ghost use Rattle.dv_inline.specs.Leads.{ComesTo, LeadAlike, Stands};
-ghost use Rattle.dv_inline.specs.Position.{Gives, come};
+ghost use Rattle.dv_inline.specs.Leads.{ResultsIn, LeadAlike, Stands};
+ghost use Rattle.dv_inline.specs.Position.{Gives, run_to_request};
 ghost use Rattle.futures.specs.Poll.{IfReady, OnPending};
 
 use crate::body::InlineBody;
@@ -26,13 +26,12 @@ impl Poller {
         })
     }
 
-    /// Polls a body once: it goes on until an answer is wanted, or is over. AllocError where a
-    /// `try` or a result finds no memory; after that, and after a result, the body can only be
-    /// dropped.
+    /// Polls a body once: it runs up to its next request, or to its end. AllocError where a `try`
+    /// or a result finds no memory; after that, and after a result, the body can only be dropped.
     pub fn poll(&self, body: &mut InlineBody<'_>) -> Poll<Result<Value, AllocError>>
         ensures value { IfReady result (Gives body.old) }
-        ensures outcome { IfReady result (λ out. IfOk out (ComesTo body.old)) }
-        ensures comes { OnPending result (body.new ≡ come body.old) }
+        ensures outcome { IfReady result (λ out. IfOk out (ResultsIn body.old)) }
+        ensures runs { OnPending result (body.new ≡ run_to_request body.old) }
         ensures going { OnPending result (body.new.result ≡ None) }
         ensures stands { OnPending result (Stands body.new) }
         ensures same { OnPending result (LeadAlike body.old body.new) }

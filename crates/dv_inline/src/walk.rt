@@ -1,8 +1,10 @@
 ghost use Rattle.std.specs.Prelude.{◌≡◌, ◌≢◌, [], ◌∷◌, Some, None, IfOk, OnOk, IfNone, MatchOption};
 ghost use Rattle.std.specs.Prelude.{drop};
 ghost use Rattle.dv_inline.specs.Meaning.{ended, raised, no_active};
-ghost use Rattle.dv_inline.specs.Position.{started, moved, moved_by, over_with, outward, come};
-ghost use Rattle.dv_inline.specs.Position.{answered, want_at, class_caught, thrown_from, left_from};
+ghost use Rattle.dv_inline.specs.Position.{started, moved, moved_by, over_with, outward};
+ghost use Rattle.dv_inline.specs.Position.{run_to_request};
+ghost use Rattle.dv_inline.specs.Position.{answered, request_at, class_caught, thrown_from};
+ghost use Rattle.dv_inline.specs.Position.{left_from};
 ghost use Rattle.dv_inline.specs.Position.{went_on, Moves, MovesTo, second_for, ahead, active};
 ghost use Rattle.dv_inline.specs.Position.{passed};
 ghost use Rattle.dv_inline.specs.Position.{into, into_second, out_of, gone_on, caught_from};
@@ -12,7 +14,7 @@ ghost use Rattle.dv_value.specs.declared.value.Value.{Null, Fault, List as ListO
 
 use crate::open::{Catch, Inside, Onward, Open};
 use crate::opens::Opens;
-use crate::want::Want;
+use crate::request::Request;
 use dv_script::body::{End, Statement};
 use dv_script::lent::{ActionRef, ClassesRef, Statements, TextRef};
 use dv_value::boxed::Boxed;
@@ -86,18 +88,18 @@ impl<'s> Walk<'s> {
         }
     }
 
-    /// The action or the name of the first statement that is left: None where `poll` has a move to
-    /// make before, and once the body is over.
-    pub fn want(&self) -> Option<Want<'s>>
-        ensures { result ≡ want_at self.now }
+    /// What the body requests by the first statement that is left, an action or a name: None if
+    /// `poll` has a move to make first, and once the body is over.
+    pub fn request(&self) -> Option<Request<'s>>
+        ensures { result ≡ request_at self.now }
     {
         if self.result.is_some() {
             return None;
         }
         let (statement, _) = self.statements.split()?;
         match statement {
-            Statement::Do(action) => Some(Want::Do(ActionRef::new(action))),
-            Statement::Await(name) => Some(Want::Await(TextRef::new(name))),
+            Statement::Do(action) => Some(Request::Do(ActionRef::new(action))),
+            Statement::Await(name) => Some(Request::Await(TextRef::new(name))),
             Statement::Try(_, _, _)
             | Statement::Finally(_, _)
             | Statement::Raise
@@ -113,10 +115,10 @@ impl<'s> Walk<'s> {
     pub fn answer(&mut self, answer: Value)
         ensures { self.new ≡ answered answer self.old }
     {
-        match self.want() {
+        match self.request() {
             None => drop(answer),
-            Some(Want::Do(_)) => self.end_do(answer),
-            Some(Want::Await(_)) => self.end_await(answer),
+            Some(Request::Do(_)) => self.end_do(answer),
+            Some(Request::Await(_)) => self.end_await(answer),
         }
     }
 
@@ -219,7 +221,7 @@ impl<'s> Walk<'s> {
                 self.go_outward();
                 Ok(true)
             }
-            Some((statement, rest)) => self.begin(statement, rest),
+            Some((statement, rest)) => self.step_by(statement, rest),
         }
     }
 
@@ -269,7 +271,11 @@ impl<'s> Walk<'s> {
 
     /// Goes into a `try` or a `finally`, throws or catches the active failure, or leaves the body,
     /// and returns whether it did.
-    fn begin(&mut self, statement: &'s Statement, rest: Statements<'s>) -> Result<bool, AllocError>
+    fn step_by(
+        &mut self,
+        statement: &'s Statement,
+        rest: Statements<'s>,
+    ) -> Result<bool, AllocError>
         ensures { IfOk result (λ moves. MovesTo moves
             (moved_by (out-Statement statement.now) rest.entry self.old) self.old self.new) }
     {
@@ -371,10 +377,10 @@ impl<'s> Walk<'s> {
         Ok(())
     }
 
-    /// Makes all moves that need no answer.
+    /// Makes all moves that need no answer: runs up to the next request, or to the end.
     #[tactic(auto, using(crate::proofs::Moves::step_smaller, crate::proofs::Moves::step_keeps, crate::proofs::Moves::last_step))]
-    pub fn come(&mut self) -> Result<(), AllocError>
-        ensures { OnOk result (self.new ≡ come self.old) }
+    pub fn run_to_request(&mut self) -> Result<(), AllocError>
+        ensures { OnOk result (self.new ≡ run_to_request self.old) }
     {
         while self.step()? {}
         Ok(())

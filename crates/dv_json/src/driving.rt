@@ -30,8 +30,8 @@ impl Driver for Marking {
         Items::new(alloc)
     }
 
-    fn note(&self, notes: &mut Items<usize>, told: usize) -> Result<(), AllocError> {
-        notes.push(told)
+    fn note(&self, notes: &mut Items<usize>, logged: usize) -> Result<(), AllocError> {
+        notes.push(logged)
     }
 
     fn keep<'s, R, J>(

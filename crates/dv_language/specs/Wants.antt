@@ -8,8 +8,8 @@ use Rattle.dv_forms.specs.declared.want.Object.{Object}
 use Rattle.dv_forms.specs.declared.want.Object.TheVariants as named
 use Rattle.dv_forms.specs.declared.want.Leaf.{Leaf}
 use Rattle.dv_forms.specs.declared.want.Leaf.TheVariants as leaf
-use Rattle.dv_forms.specs.declared.want.Call.{Call}
-use Rattle.dv_forms.specs.declared.want.Call.TheVariants as call
+use Rattle.dv_forms.specs.declared.want.CallKind.{CallKind}
+use Rattle.dv_forms.specs.declared.want.CallKind.TheVariants as call
 use Rattle.dv_forms.specs.declared.want.Keyed.{Keyed}
 use Rattle.dv_forms.specs.declared.want.Keyed.TheVariants as keyed
 use Rattle.dv_forms.specs.declared.want.Want.{Want}
@@ -30,7 +30,7 @@ object_name named.Class = codes "class"
 object_name named.Body = codes "body"
 
 -- where a word may stand
-abbrev pub place_name : Call → List ℕ
+abbrev pub place_name : CallKind → List ℕ
 place_name call.Event = codes "event"
 place_name call.Action = codes "action"
 place_name call.Statement = codes "statement"

@@ -9,7 +9,7 @@ ghost use Rattle.dv_language.specs.Wants.{object_name, place_name, keyed_name, n
 ghost use Rattle.dv_language.specs.Wants.{list_words, gather_words, leaf_data, flat_data};
 ghost use Rattle.dv_language.specs.Wants.{nested_data, want_data, wants_data};
 
-use dv_forms::want::{Call, Keyed, Leaf, Object, Want};
+use dv_forms::want::{CallKind, Keyed, Leaf, Object, Want};
 use dv_script::limits::MOST_PLACES;
 use serde_json::{Value as Json, json, push};
 use std::alloc::{AllocError, Global};
@@ -32,16 +32,16 @@ fn object_name(object: Object) -> &'static str
 }
 
 /// Where a word may stand.
-pub fn place_name(call: Call) -> &'static str
+pub fn place_name(call: CallKind) -> &'static str
     ensures { result.now ≡ place_name call }
 {
     match call {
-        Call::Event => "event",
-        Call::Action => "action",
-        Call::Statement => "statement",
-        Call::End => "end",
-        Call::Leaving => "leaving",
-        Call::Work => "work",
+        CallKind::Event => "event",
+        CallKind::Action => "action",
+        CallKind::Statement => "statement",
+        CallKind::End => "end",
+        CallKind::Leaving => "leaving",
+        CallKind::Work => "work",
     }
 }
 

@@ -6,7 +6,7 @@ ghost use Rattle.dv_forms.specs.Words.{seen};
 ghost use Rattle.dv_language.specs.Words.{form_data, places_data, words_data};
 
 use crate::wants::wants_json;
-use dv_forms::want::Call;
+use dv_forms::want::CallKind;
 use dv_forms::words::{
     ACTION_FORMS, END_FORMS, EVENT_FORMS, Form, LEAVING_FORMS, STATEMENT_FORMS, WORK_FORMS,
 };
@@ -14,20 +14,20 @@ use serde_json::{Value as Json, json, push};
 use std::alloc::{AllocError, Global};
 
 /// The places where the words of such a place may stand.
-fn places_json(alloc: Global, call: Call) -> Result<Json, AllocError>
+fn places_json(alloc: Global, call: CallKind) -> Result<Json, AllocError>
     ensures { IfOk result (λ json. view json ≡ places_data call) }
 {
     match call {
-        Call::Event => json!(in alloc; ["event"]),
-        Call::Action => json!(in alloc; ["event", "action"]),
-        Call::Statement => json!(in alloc; ["statement"]),
-        Call::End => json!(in alloc; ["end"]),
-        Call::Leaving => json!(in alloc; ["end", "leaving"]),
-        Call::Work => json!(in alloc; ["work"]),
+        CallKind::Event => json!(in alloc; ["event"]),
+        CallKind::Action => json!(in alloc; ["event", "action"]),
+        CallKind::Statement => json!(in alloc; ["statement"]),
+        CallKind::End => json!(in alloc; ["end"]),
+        CallKind::Leaving => json!(in alloc; ["end", "leaving"]),
+        CallKind::Work => json!(in alloc; ["work"]),
     }
 }
 
-fn form_json<W: Copy>(alloc: Global, call: Call, form: &Form<W>) -> Result<Json, AllocError>
+fn form_json<W: Copy>(alloc: Global, call: CallKind, form: &Form<W>) -> Result<Json, AllocError>
     ensures { IfOk result (λ json. view json ≡ form_data call (seen form.now)) }
 {
     json!(in alloc; {
@@ -43,7 +43,7 @@ fn form_json<W: Copy>(alloc: Global, call: Call, form: &Form<W>) -> Result<Json,
 fn push_forms<W: Copy>(
     alloc: Global,
     rows: &mut Vec<Json>,
-    call: Call,
+    call: CallKind,
     forms: &'static [Form<W>],
 ) -> Result<(), AllocError>
     ensures { OnOk result (map view rows.new.items ≡ map view rows.old.items ++ map (form_data call)
@@ -60,11 +60,11 @@ pub fn words_json(alloc: Global) -> Result<Json, AllocError>
     ensures { IfOk result (λ json. view json ≡ words_data) }
 {
     let mut rows = Vec::new(alloc);
-    push_forms(alloc, &mut rows, Call::Event, &EVENT_FORMS)?;
-    push_forms(alloc, &mut rows, Call::Action, &ACTION_FORMS)?;
-    push_forms(alloc, &mut rows, Call::Statement, &STATEMENT_FORMS)?;
-    push_forms(alloc, &mut rows, Call::Leaving, &LEAVING_FORMS)?;
-    push_forms(alloc, &mut rows, Call::End, &END_FORMS)?;
-    push_forms(alloc, &mut rows, Call::Work, &WORK_FORMS)?;
+    push_forms(alloc, &mut rows, CallKind::Event, &EVENT_FORMS)?;
+    push_forms(alloc, &mut rows, CallKind::Action, &ACTION_FORMS)?;
+    push_forms(alloc, &mut rows, CallKind::Statement, &STATEMENT_FORMS)?;
+    push_forms(alloc, &mut rows, CallKind::Leaving, &LEAVING_FORMS)?;
+    push_forms(alloc, &mut rows, CallKind::End, &END_FORMS)?;
+    push_forms(alloc, &mut rows, CallKind::Work, &WORK_FORMS)?;
     Ok(Json::Array(rows))
 }

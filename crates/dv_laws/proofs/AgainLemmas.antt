@@ -112,13 +112,13 @@ swallow_of : (n d : ℕ) → entry.Swallow d ≡ entry.Swallow n → d ≡ n
 swallow_of n d q = cc
 
 -- a firing by a cancel is none of a fired Deferred
-guarded_by : (b : Bool) (n d : ℕ) (r : Kind) (l : Records) → nat_eq d n ≡ b → slice_get l d ≡ Some r → r.fired ≡ false
+swallows_by : (b : Bool) (n d : ℕ) (r : Kind) (l : Records) → nat_eq d n ≡ b → slice_get l d ≡ Some r → r.fired ≡ false
     → at over_of n l ≡ 1
     → (let fired = slice_set l d (firing.with_firing cancelled r) in
-    cond b (at (λ x. over_of (firing.with_guard true x)) n fired) (at over_of n fired) ≡ 1)
-guarded_by true n d r l e h f q =
+    cond b (at (λ x. over_of (firing.with_swallows true x)) n fired) (at over_of n fired) ≡ 1)
+swallows_by true n d r l e h f q =
     unfired r _ f (ap (counted_of over_of) (sym h) ∙ ap (λ x. at over_of x l) (eqb-true d n e) ∙ q)
-guarded_by false n d r l e h f q = over_at n d r (firing.with_firing cancelled r) l h (unfired r _ f) q
+swallows_by false n d r l e h f q = over_at n d r (firing.with_firing cancelled r) l h (unfired r _ f) q
 
 -- each entry logs further firings
 still : (n : ℕ) → Still (λ w u. Counts n (state_of w) (state_of u))
@@ -144,10 +144,10 @@ still n = record {
         swallowed = λ q. rw (← (swallow_of n d q), h) (marked_over r p);
       });
   cancels = λ d w x. plain n (entry.Cancel d) _ (state_of w) refl (λ q. absurd cc) (λ q. q);
-  guards = λ d r w x h f c.
+  sets_swallows = λ d r w x h f c.
       plain n (entry.Fire d cancelled) _ (state_of w) refl (λ q. absurd cc)
-      (λ q. changing_by over_of n d (firing.with_guard true) (slice_set w.records d (firing.with_firing cancelled r))
-      ∙ guarded_by (nat_eq d n) n d r w.records refl h f q);
+      (λ q. changing_by over_of n d (firing.with_swallows true) (slice_set w.records d (firing.with_firing cancelled r))
+      ∙ swallows_by (nat_eq d n) n d r w.records refl h f q);
   fires =
       λ d value r w x h f.
       plain n (entry.Fire d value) _ (state_of w) refl (λ q. absurd cc) (over_at n d r _ w.records h (unfired r _ f));

@@ -6,7 +6,7 @@ use Rattle.std.specs.Option.{option_map_or}
 use Rattle.std.proofs.lemmas.List.Sums.{sum_by_push, sum_by-set, fold-append}
 use Rattle.std.proofs.lemmas.Option.{none-some, slice_get_within, get_or_from_slice_get}
 use Rattle.dv_clock.specs.Clock.{Clock, Upcoming, next_call, with_call, ended, moved, with_end, is_waiting}
-use Rattle.dv_clock.specs.Due.{scheduling, coming_due}
+use Rattle.dv_clock.specs.Due.{scheduling, entry_when_due}
 use Rattle.dv_clock.specs.declared.call.Call.{Call}
 use Rattle.dv_clock.specs.declared.call.CallState.{CallState}
 use Rattle.dv_clock.specs.declared.call.CallState.TheVariants as call_state
@@ -63,21 +63,21 @@ scheduling_time time what.Tick due = refl
 scheduling_time time (what.Delivery job key) due = refl
 scheduling_time time (what.Timeout d) due = refl
 
-coming_schedules : (due_for : Due) → scheduled_by (coming_due due_for) ≡ None
+coming_schedules : (due_for : Due) → scheduled_by (entry_when_due due_for) ≡ None
 coming_schedules (what.Call name key) = refl
 coming_schedules (what.Turn name key) = refl
 coming_schedules what.Tick = refl
 coming_schedules (what.Delivery job key) = refl
 coming_schedules (what.Timeout d) = refl
 
-pub coming_is : (due_for : Due) → ended_by (coming_due due_for) ≡ timed_of due_for
+pub coming_is : (due_for : Due) → ended_by (entry_when_due due_for) ≡ timed_of due_for
 coming_is (what.Call name key) = refl
 coming_is (what.Turn name key) = refl
 coming_is what.Tick = refl
 coming_is (what.Delivery job key) = refl
 coming_is (what.Timeout d) = refl
 
-coming_time : (due_for : Due) → timing_of (coming_due due_for) ≡ Untimed
+coming_time : (due_for : Due) → timing_of (entry_when_due due_for) ≡ Untimed
 coming_time (what.Call name key) = refl
 coming_time (what.Turn name key) = refl
 coming_time what.Tick = refl
@@ -351,7 +351,7 @@ set_for t due_for due entries q (inl s) = Scheduled (subst (λ x. Stands x entri
 set_for t due_for due entries q (inr p) = Reset p.0 (named_is due_for p.0 t p.1 q) p.2
 
 was_due : (t : Timed) (c : Clock) (call : Upcoming) (entries : List Entry) → next_call c ≡ Some call
-    → Timely t c entries → coming_due call.what ≡ run_of t → WasDue t entries
+    → Timely t c entries → entry_when_due call.what ≡ run_of t → WasDue t entries
 was_due t c call entries n k q =
     let first = first_runs_next c call n in
     let same : timed_of call.what ≡ Some t = sym (coming_is call.what) ∙ ap ended_by q ∙ run_ends t in
@@ -362,9 +362,9 @@ was_due t c call entries n k q =
     }
 
 runs_tell : (t : Timed) (c : Clock) (call : Upcoming) (entries : List Entry) → next_call c ≡ Some call
-    → Timely t c entries → Timely t (ended call.number call_state.Called c) (entries ++ coming_due call.what ∷ [])
+    → Timely t c entries → Timely t (ended call.number call_state.Called c) (entries ++ entry_when_due call.what ∷ [])
 runs_tell t c call entries n k =
-    let e = coming_due call.what in
+    let e = entry_when_due call.what in
     let first = first_runs_next c call n in
     tells t e c (ended call.number call_state.Called c) entries
     (omega (
@@ -499,7 +499,7 @@ still t = record {
   refuses = λ d r w x h p q. plain t (entry.Refuse d) w _ (refl, refl, refl) refl refl refl;
   swallows = λ d r w x h p. plain t (entry.Swallow d) w _ (refl, refl, refl) refl refl refl;
   cancels = λ d w x. plain t (entry.Cancel d) w _ (refl, refl, refl) refl refl refl;
-  guards = λ d r w x h f c. plain t (entry.Fire d cancelled) w _ (refl, refl, refl) refl refl refl;
+  sets_swallows = λ d r w x h f c. plain t (entry.Fire d cancelled) w _ (refl, refl, refl) refl refl refl;
   fires = λ d value r w x h f. plain t (entry.Fire d value) w _ (refl, refl, refl) refl refl refl;
   adds = λ d pair r w x h. plain t (entry.Add d) w _ (refl, refl, refl) refl refl refl;
   pauses = λ d r w x h. plain t (entry.Pause d) w _ (refl, refl, refl) refl refl refl;

@@ -5,10 +5,10 @@ use Rattle.std.proofs.Common.{length, nat_eq, slice_get, refl, arith}
 use Rattle.dv_value.specs.declared.value.Value.{Value}
 use Rattle.dv_journal.specs.declared.entry.Entry.{Entry}
 use Rattle.dv_journal.specs.declared.entry.Entry.TheVariants as entry
-use Rattle.dv_prims.specs.DeferredList.{Gather, came}
+use Rattle.dv_prims.specs.DeferredList.{Gather, child_fired}
 use Rattle.dv_prims.specs.Tokens.{Semaphore, is_unheld}
 use Rattle.dv_clock.specs.Clock.{Upcoming, next_call, new_due}
-use Rattle.dv_clock.specs.Due.{coming_due}
+use Rattle.dv_clock.specs.Due.{entry_when_due}
 use Rattle.dv_clock.specs.Turns.{turn_of}
 use Rattle.dv_clock.specs.declared.call.Call.{Call}
 use Rattle.dv_clock.specs.declared.call.CallState.{CallState}
@@ -21,17 +21,18 @@ use Rattle.dv_script.specs.declared.body.Body as body_of
 use Rattle.dv_journal.specs.Told.{change_of, Aside}
 use Rattle.dv_world.specs.World.{World, step, append, fire, cancel, pause, unpause, make, aside, lock_told}
 use Rattle.dv_world.specs.World.{release_found, forget}
-use Rattle.dv_world.specs.World.{arrange, came_to_found, came_to, come_due_found, waiting_cancelled, state_cancelled}
+use Rattle.dv_world.specs.World.{arrange, child_fired_found, child_fired_in, take_due_found, waiting_cancelled}
+use Rattle.dv_world.specs.World.{state_cancelled}
 use Rattle.dv_world.specs.World.{call_cancelled, cancel_call, waiting_reset, state_reset, call_reset, reset_call}
 use Rattle.dv_world.specs.World.{start_timer}
 use Rattle.dv_world.specs.World.{turn_scheduled, loop_stopped, end_loop}
 use Rattle.dv_world.specs.World.{task_told, task_ended, tick_dropped, keep_tick, step_taken, turn_taken}
-use Rattle.dv_world.specs.World.{come_to_inline, end_await, submit, deliver_later}
+use Rattle.dv_world.specs.World.{resume_inline, end_await, submit, deliver_later}
 use Rattle.dv_script.specs.declared.work.Work.{Work}
 use Rattle.dv_objects.specs.Cooperator.{Cooperator, with_step, result_of, unended, wants_tick, idle_tick}
 use Rattle.dv_objects.specs.Objects.{Objects, with_list, with_ended_call, with_moved_call, cooperating}
 use Rattle.dv_objects.specs.Objects.{inlining}
-use Rattle.dv_objects.specs.Inlines.{come_to, end_adding}
+use Rattle.dv_objects.specs.Inlines.{resume_at, end_adding}
 use Rattle.dv_inline.specs.Position.{Position}
 use Rattle.dv_clock.proofs.LoopLemmas.{next_is_first}
 use Rattle.std.specs.Prelude.{max, is_some}
@@ -62,7 +63,7 @@ use Rattle.dv_clock.specs.Clock.{Clock}
 use Rattle.dv_objects.specs.Looping.{turn_dropped, with_stopped, with_ended}
 use Rattle.dv_objects.specs.Objects.{lock_changed}
 use Rattle.dv_objects.specs.declared.canceller.Canceller.{Canceller}
-use Rattle.dv_world.specs.World.{fire_guarded, call_later, schedule_tick, reached_from}
+use Rattle.dv_world.specs.World.{fire_then_swallow, call_later, schedule_tick, reached_from}
 use Rattle.dv_journal.specs.Journal.{fits, with_entry}
 use Rattle.dv_definition.specs.Steps as steps
 use Rattle.dv_definition.specs.Steps.{stepped, Question, Reply}
@@ -177,7 +178,7 @@ pub record Calm (R : World → World → Type 0) : Type 0 where
   pub by_name : (d : ℕ) (name : List ℕ) (w : World) → R w (aside (entry.Name d (Some name)) (naming name d) w)
   pub by_append : (d : ℕ) (pair : Pair) (w : World) → R w (append d pair w)
   pub by_fire : (d : ℕ) (value : Value) (w : World) → R w (fire d value w).1
-  pub by_fire_guarded : (d : ℕ) (w : World) → WasCancelled d w → R w (fire_guarded d w)
+  pub by_fire_then_swallow : (d : ℕ) (w : World) → WasCancelled d w → R w (fire_then_swallow d w)
   pub by_unpause : (d : ℕ) (w : World) → R w (unpause d w).1
 
 pub record Calmly (w u : World) : Type 1 where
@@ -312,16 +313,16 @@ forget_comes l d w =
     (lock_loops l (forgotten d) (slice_get w.objects.semaphores l) w.objects) (lock_arranged l d _ w.objects refl)
     (lock_names l (forgotten d) (slice_get w.objects.semaphores l) w.objects)
 
-came_comes : (l i : ℕ) (v : Value) (o : Option Gather) (w : World) → Quietly w (came_to_found l i v o w).1
-came_comes l i v None w = same w
-came_comes l i v (Some g) w =
-    by_arrange (with_list l (came i v g).1) w refl Stays (λ k. k) (arranging _ _ refl refl refl refl refl) refl
+child_fired_comes : (l i : ℕ) (v : Value) (o : Option Gather) (w : World) → Quietly w (child_fired_found l i v o w).1
+child_fired_comes l i v None w = same w
+child_fired_comes l i v (Some g) w =
+    by_arrange (with_list l (child_fired i v g).1) w refl Stays (λ k. k) (arranging _ _ refl refl refl refl refl) refl
 
-came_to_comes : (l i : ℕ) (v : Value) (w : World) → Quietly w (came_to l i v w).1
-unfolding came_to
-came_to_comes l i v w =
-    first_comes w.stopped _ (came_to_found l i v (slice_get w.objects.lists l) w) w (same w)
-    (came_comes l i v (slice_get w.objects.lists l) w)
+child_fired_in_comes : (l i : ℕ) (v : Value) (w : World) → Quietly w (child_fired_in l i v w).1
+unfolding child_fired_in
+child_fired_in_comes l i v w =
+    first_comes w.stopped _ (child_fired_found l i v (slice_get w.objects.lists l) w) w (same w)
+    (child_fired_comes l i v (slice_get w.objects.lists l) w)
 
 scheduled_comes : (l : ℕ) (o : Option LoopingCall) (w : World) → slice_get w.objects.loops l ≡ o
     → Quietly w (turn_scheduled l o w)
@@ -424,10 +425,10 @@ task_ended_comes t end (Some x) w h =
     by_aside (entry.End x.name (result_of x.name end)) _ w refl tt (λ k. Leaves (refl, refl, refl)) (λ k. k)
     (task_beside _ _ _ (beside.TaskEnds t end x found.0 found.1 refl) refl refl refl) refl
 
-inlining_comes : (i : ℕ) (v : Value) (w : World) → Quietly w (come_to_inline i v w).1
-unfolding come_to_inline
+inlining_comes : (i : ℕ) (v : Value) (w : World) → Quietly w (resume_inline i v w).1
+unfolding resume_inline
 inlining_comes i v w =
-    let t = come_to i v w.objects.inlines in
+    let t = resume_at i v w.objects.inlines in
     first_comes w.stopped (None, w) (t.0, arrange (inlining (λ inlines. t.1)) w) w (same w)
     (by_arrange _ w refl Stays (λ k. k) (arranging _ _ refl refl refl refl refl) refl)
 
@@ -525,48 +526,48 @@ delivery_comes job d delay w =
     by_aside (entry.LaterJob job due) (with_delivery job d due) w refl tt (λ k. Adds (what.Delivery job d) due refl
     (omega arith)) (λ k. k) (resting _ _ _ refl refl refl refl refl refl refl refl refl) refl
 
-due_aside : (due : Due) → change_of (coming_due due) ≡ Aside
+due_aside : (due : Due) → change_of (entry_when_due due) ≡ Aside
 due_aside (what.Call name key) = refl
 due_aside (what.Turn name key) = refl
 due_aside what.Tick = refl
 due_aside (what.Delivery job key) = refl
 due_aside (what.Timeout d) = refl
 
-due_untasked : (due : Due) → tasking_of (coming_due due) ≡ Untasked
+due_untasked : (due : Due) → tasking_of (entry_when_due due) ≡ Untasked
 due_untasked (what.Call name key) = refl
 due_untasked (what.Turn name key) = refl
 due_untasked what.Tick = refl
 due_untasked (what.Delivery job key) = refl
 due_untasked (what.Timeout d) = refl
 
-due_unheld : (due : Due) → holding_of (coming_due due) ≡ Unheld
+due_unheld : (due : Due) → holding_of (entry_when_due due) ≡ Unheld
 due_unheld (what.Call name key) = refl
 due_unheld (what.Turn name key) = refl
 due_unheld what.Tick = refl
 due_unheld (what.Delivery job key) = refl
 due_unheld (what.Timeout d) = refl
 
-due_unqueued : (due : Due) → queueing_of (coming_due due) ≡ Unqueued
+due_unqueued : (due : Due) → queueing_of (entry_when_due due) ≡ Unqueued
 due_unqueued (what.Call name key) = refl
 due_unqueued (what.Turn name key) = refl
 due_unqueued what.Tick = refl
 due_unqueued (what.Delivery job key) = refl
 due_unqueued (what.Timeout d) = refl
 
-due_leaves : (due : Due) → LeavesQueues (queueing_of (coming_due due))
+due_leaves : (due : Due) → LeavesQueues (queueing_of (entry_when_due due))
 due_leaves due = subst LeavesQueues (sym (due_unqueued due)) tt
 
-due_unlooped : (due : Due) → looping_of (coming_due due) ≡ Unlooped
+due_unlooped : (due : Due) → looping_of (entry_when_due due) ≡ Unlooped
 due_unlooped (what.Call name key) = refl
 due_unlooped (what.Turn name key) = refl
 due_unlooped what.Tick = refl
 due_unlooped (what.Delivery job key) = refl
 due_unlooped (what.Timeout d) = refl
 
-upcoming_comes : (o : Option Upcoming) (w : World) → next_call w.objects.clock ≡ o → Quietly w (come_due_found o w).1
+upcoming_comes : (o : Option Upcoming) (w : World) → next_call w.objects.clock ≡ o → Quietly w (take_due_found o w).1
 upcoming_comes None w h = same w
 upcoming_comes (Some call) w h =
-    by_aside (coming_due call.what) (with_ended_call call.number call_state.Called) w (due_aside call.what)
+    by_aside (entry_when_due call.what) (with_ended_call call.number call_state.Called) w (due_aside call.what)
     (due_leaves call.what)
     (λ k. Runs call h refl) (λ k. k) (resting _ _ _ (due_untasked call.what) (due_unheld call.what)
     (due_unqueued call.what) (due_unlooped call.what) refl refl refl refl refl) refl
@@ -581,7 +582,7 @@ IsQuiet (steps.PutDeferred d e) = ⊥
 IsQuiet (steps.Advance ticks) = ⊥
 IsQuiet (steps.Name d name) = ⊥
 IsQuiet (steps.Append d pair) = ⊥
-IsQuiet (steps.FireGuarded d) = ⊥
+IsQuiet (steps.FireThenSwallow d) = ⊥
 IsQuiet (steps.Withdraw k d) = ⊥
 IsQuiet step = Unit {0}
 
@@ -596,7 +597,7 @@ abbrev pub IsCalm : Option Reached → steps.Step → Type 0
 IsCalm o (steps.Put d v) = ⊥
 IsCalm o (steps.PutDeferred d e) = ⊥
 IsCalm o (steps.Advance ticks) = ⊥
-IsCalm o (steps.FireGuarded d) = o ≡ Some (reached.Fire d)
+IsCalm o (steps.FireThenSwallow d) = o ≡ Some (reached.Fire d)
 IsCalm o (steps.Withdraw k d) = o ≡ Some (reached.ForItem d k)
 IsCalm o step = Unit {0}
 
@@ -612,7 +613,7 @@ pub step_quiet : (step : steps.Step) (w : World) → IsQuiet step → Quietly w 
 step_quiet (steps.Make name canceller) w m = by_make name canceller w
 step_quiet (steps.Name d name) w m = absurd m
 step_quiet (steps.Append d pair) w m = absurd m
-step_quiet (steps.FireGuarded d) w m = absurd m
+step_quiet (steps.FireThenSwallow d) w m = absurd m
 step_quiet (steps.Pause d) w m = record { keeps = λ R l. l.by_pause d w }
 step_quiet (steps.Note text) w m =
     by_aside (entry.Note text) _ w refl tt (λ k. Leaves (refl, refl, refl)) (λ k. k)
@@ -705,15 +706,15 @@ question_quiet (steps.BeginBody declared) w m =
 question_quiet (steps.Cancel d) w m = absurd m
 question_quiet (steps.PutInto k v) w m = absurd m
 question_quiet (steps.GetFrom k d) w m = absurd m
-question_quiet (steps.CameTo l i v) w m = came_to_comes l i v w
+question_quiet (steps.ChildFired l i v) w m = child_fired_in_comes l i v w
 question_quiet (steps.CancelCall number) w m = off_comes number w
 question_quiet (steps.ResetCall number from delay) w m = anew_comes number from delay w
 question_quiet steps.TakeStep w m = turn_comes (turn_of w.objects.cooperator.turns) w refl
 question_quiet (steps.EndTask t end) w m =
     task_ended_comes t end (unended (slice_get w.objects.cooperator.tasks t)) w refl
-question_quiet (steps.ComeToInline i v) w m = inlining_comes i v w
+question_quiet (steps.ResumeInline i v) w m = inlining_comes i v w
 question_quiet (steps.EndAwait i e p) w m = end_await_comes i e p w
-question_quiet steps.ComeDue w m = upcoming_comes (next_call w.objects.clock) w refl
+question_quiet steps.TakeDue w m = upcoming_comes (next_call w.objects.clock) w refl
 question_quiet (steps.Moves d) w m = absurd m
 
 -- so they are calm, and what adds a pair or fires is, too
@@ -723,9 +724,9 @@ quietly w u c = record { keeps = λ R l. c.keeps R l.quiet }
 pub join_calm : (u v w : World) → Calmly u v → Calmly v w → Calmly u w
 join_calm u v w a b = record { keeps = λ R l. l.quiet.joins u v w (a.keeps R l) (b.keeps R l) }
 
-by_guarded : (o : Option Reached) (d : ℕ) (w : World) → HasReached o w → o ≡ Some (reached.Fire d)
-    → Calmly w (fire_guarded d w)
-by_guarded o d w h e = record { keeps = λ R l. l.by_fire_guarded d w (subst (λ x. HasReached x w) e h) }
+by_swallows : (o : Option Reached) (d : ℕ) (w : World) → HasReached o w → o ≡ Some (reached.Fire d)
+    → Calmly w (fire_then_swallow d w)
+by_swallows o d w h e = record { keeps = λ R l. l.by_fire_then_swallow d w (subst (λ x. HasReached x w) e h) }
 
 no_withdrawal : (o : Option Reached) (k d : ℕ) (w : World) → HasReached o w → o ≡ Some (reached.ForItem d k) → ⊥
 no_withdrawal o k d w h e = subst (λ x. HasReached x w) e h
@@ -735,7 +736,7 @@ pub step_calm : (step : steps.Step) (o : Option Reached) (w : World) → HasReac
 step_calm (steps.Put d v) o w h m = absurd m
 step_calm (steps.PutDeferred d e) o w h m = absurd m
 step_calm (steps.Advance ticks) o w h m = absurd m
-step_calm (steps.FireGuarded d) o w h m = by_guarded o d w h m
+step_calm (steps.FireThenSwallow d) o w h m = by_swallows o d w h m
 step_calm (steps.Withdraw k d) o w h m = absurd (no_withdrawal o k d w h m)
 step_calm (steps.Name d name) o w h m = record { keeps = λ R l. l.by_name d name w }
 step_calm (steps.Append d pair) o w h m = record { keeps = λ R l. l.by_append d pair w }
@@ -747,14 +748,14 @@ reached_by (steps.BeginBody declared) r = None
 reached_by (steps.Cancel d) r = Some r
 reached_by (steps.PutInto k v) r = None
 reached_by (steps.GetFrom k d) r = None
-reached_by (steps.CameTo l i v) r = None
+reached_by (steps.ChildFired l i v) r = None
 reached_by (steps.CancelCall number) r = None
 reached_by (steps.ResetCall number from delay) r = None
 reached_by steps.TakeStep r = None
 reached_by (steps.EndTask t end) r = None
-reached_by (steps.ComeToInline i v) r = None
+reached_by (steps.ResumeInline i v) r = None
 reached_by (steps.EndAwait i e p) r = None
-reached_by steps.ComeDue r = None
+reached_by steps.TakeDue r = None
 reached_by (steps.Moves d) r = None
 
 whom_reached : (d : ℕ) (r : Reached) (w : World) → reached_from d w.records ≡ r → ReachesNoItem r

@@ -3,7 +3,7 @@ use Rattle.std.specs.Prelude.{◌≡◌, ◌≤◌, ℕ, List, None, Some, slice
 use Rattle.dv_journal.specs.declared.entry.Entry.{Entry}
 use Rattle.dv_journal.specs.declared.entry.Entry.TheVariants as entry
 use Rattle.dv_clock.specs.Clock.{Clock, Upcoming, next_call, with_call, ended, moved}
-use Rattle.dv_clock.specs.Due.{scheduling, coming_due}
+use Rattle.dv_clock.specs.Due.{scheduling, entry_when_due}
 use Rattle.dv_clock.specs.declared.call.CallState.TheVariants as call_state
 use Rattle.dv_clock.specs.declared.due.Due.{Due}
 use Rattle.dv_clock.specs.declared.due.Due.TheVariants as what
@@ -19,7 +19,7 @@ IsPlain e = (timing_of e ≡ Untimed) × (scheduled_by e ≡ None) × (ended_by 
 pub data Clocks (e : Entry) (c : Clock) : Clock → Type 0 where
   Leaves : IsPlain e → Clocks e c c
   Adds : (due_for : Due) (due : ℕ) → e ≡ scheduling due_for due → c.time ≤ due → Clocks e c (with_call due due_for c)
-  Runs : (call : Upcoming) → next_call c ≡ Some call → e ≡ coming_due call.what
+  Runs : (call : Upcoming) → next_call c ≡ Some call → e ≡ entry_when_due call.what
       → Clocks e c (ended call.number call_state.Called c)
   Cancels : (number due : ℕ) (name : List ℕ) (key : ℕ)
       → slice_get c.calls number ≡ Some (record { due = due; state = call_state.Waiting (what.Call name key) })

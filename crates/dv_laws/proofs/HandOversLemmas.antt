@@ -11,7 +11,7 @@ use Rattle.dv_journal.specs.declared.entry.Entry.TheVariants as entry
 use Rattle.dv_script.specs.declared.script.Script.{Script}
 use Rattle.dv_store.specs.Callbacks.{with_handed, with_result}
 use Rattle.dv_store.specs.Chaining as chaining
-use Rattle.dv_store.specs.Fire.{with_firing, with_guard}
+use Rattle.dv_store.specs.Fire.{with_firing, with_swallows}
 use Rattle.dv_store.specs.Record.{with_item, new_record, changed, changing}
 use Rattle.dv_store.specs.declared.record.Item.{Item}
 use Rattle.dv_store.specs.declared.record.Item.TheVariants as item
@@ -162,10 +162,10 @@ turns m = record {
       plain m (entry.New (length s.0) name) _ s refl refl (push_same m (new_record name canceller) s.0 refl);
   asides = λ e s a x. plain m e _ s (rw a refl) (rw a refl) refl;
   refuses = λ d r s x h f. plain m (entry.Refuse d) _ s refl refl refl;
-  swallows = λ d r s x h f. plain m (entry.Swallow d) _ s refl refl (set_same m d r (with_guard false r) s.0 h refl);
+  swallows = λ d r s x h f. plain m (entry.Swallow d) _ s refl refl (set_same m d r (with_swallows false r) s.0 h refl);
   cancels = λ d s x. plain m (entry.Cancel d) _ s refl refl refl;
-  guards = λ d r s x h f.
-      plain m (entry.Fire d cancelled) _ s refl refl (changing_same m d (with_guard true)
+  sets_swallows = λ d r s x h f.
+      plain m (entry.Fire d cancelled) _ s refl refl (changing_same m d (with_swallows true)
       (slice_set s.0 d (with_firing cancelled r)) (λ y. refl) ∙ set_same m d r (with_firing cancelled r) s.0 h refl);
   fires =
       λ d value r s x h f. plain m (entry.Fire d value) _ s refl refl (set_same m d r (with_firing value r) s.0 h refl);

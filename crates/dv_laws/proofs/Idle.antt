@@ -33,7 +33,7 @@ use Rattle.dv_frames.specs.declared.frame.Frame.{Frame}
 use Rattle.dv_frames.specs.declared.frame.Frame.TheVariants as frame
 use Rattle.dv_definition.specs.Definition as page
 use Rattle.dv_definition.specs.Scripts as scripts
-use Rattle.dv_definition.specs.Scripts.{Occurrence, Occurs, Comes, occurrences}
+use Rattle.dv_definition.specs.Scripts.{Occurrence, Occurs, Posts, occurrences}
 use Rattle.dv_definition.specs.Steps as steps
 use Rattle.dv_loop.specs.Beginning.{happening}
 use Rattle.dv_loop.specs.Meaning.{Gives, Runs, Means}
@@ -325,7 +325,7 @@ happens_same (Occurs (event.Advance ticks)) w n =
     aside_cases w (λ u. running_at n u ≡ running_at n w) refl refl (entry.Advance _) (with_time _) (λ x. refl)
 happens_same (Occurs (event.Drain most)) w n =
     ((drain_mild w).comes.keeps SameRunning (calm SameRunning same_running)).same n
-happens_same (Comes posted body) w n =
+happens_same (Posts posted body) w n =
     ((post_comes posted.caller posted.index w).keeps SameRunning (calm SameRunning same_running)).same n
 
 happens_stands : (occurrence : Occurrence) (w : World) → AtRest w

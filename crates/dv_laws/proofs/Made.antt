@@ -36,7 +36,7 @@ use Rattle.dv_objects.specs.declared.reached.Reached.{Reached}
 use Rattle.dv_objects.specs.declared.reached.Reached.TheVariants as reached
 use Rattle.dv_store.specs.Callbacks.{with_handed, with_result}
 use Rattle.dv_store.specs.Chaining as chaining
-use Rattle.dv_store.specs.Fire.{with_guard}
+use Rattle.dv_store.specs.Fire.{with_swallows}
 use Rattle.dv_store.specs.Record.{with_item, new_record}
 use Rattle.dv_store.specs.declared.record.Item.TheVariants as item
 use Rattle.dv_store.specs.declared.store.Step.{Step as Move}
@@ -46,15 +46,17 @@ use Rattle.dv_loop.proofs.Lasting.{Lasting, Comes}
 use Rattle.dv_loop.proofs.StepsCome as come
 use Rattle.dv_loop.proofs.StepsCome.{step_comes, question_comes}
 use Rattle.dv_world.specs.World as world
-use Rattle.dv_world.specs.World.{World, Records, state_of, with_state, with_stop, append, fire, fired, fire_guarded}
-use Rattle.dv_world.specs.World.{guarded, unpause, step, put, put_deferred, make, cancel, withdraw, reached_from}
+use Rattle.dv_world.specs.World.{World, Records, state_of, with_state, with_stop, append, fire, fired}
+use Rattle.dv_world.specs.World.{fire_then_swallow}
+use Rattle.dv_world.specs.World.{fired_then_swallows, unpause, step, put, put_deferred, make, cancel, withdraw}
+use Rattle.dv_world.specs.World.{reached_from}
 use Rattle.dv_world.specs.World.{end_reached, record_reached, put_into, get_from, cancel_call, call_cancelled}
 use Rattle.dv_world.specs.World.{state_cancelled, reset_call, call_reset, state_reset, pause, submit, aside, arrange}
 use Rattle.dv_store.specs.Cancelling.{end_of_chain}
 use Rattle.dv_laws.proofs.At.{counted_of, at, set_at, changing_at}
 use Rattle.dv_laws.proofs.Calm.{Quiet, step_quiet, question_quiet}
 use Rattle.dv_laws.proofs.Stays.{step_stays, put_stays, put_deferred_stays, append_stays, make_stays, fire_stays}
-use Rattle.dv_laws.proofs.Stays.{fire_guarded_stays, cancel_stays, pause_stays, unpause_stays, aside_stays}
+use Rattle.dv_laws.proofs.Stays.{fire_then_swallow_stays, cancel_stays, pause_stays, unpause_stays, aside_stays}
 use Rattle.dv_laws.proofs.Stays.{arrange_stays, submit_stays}
 use Rattle.dv_laws.proofs.Steps.{telling_in, put_cases, put_deferred_cases, append_cases, pause_cases, make_cases}
 use Rattle.dv_laws.proofs.Steps.{aside_cases, arrange_cases, submit_cases, cancel_cases, unpause_cases, fire_cases}
@@ -94,8 +96,8 @@ stands = record {
   refuses = λ d r s x h f. record { each = λ n i. i };
   swallows = λ d r s x h f. record { each = λ n i. set_at one_of n d r _ s.0 h refl ∙ i };
   cancels = λ d s x. record { each = λ n i. i };
-  guards = λ d r s x h f. record {
-    each = λ n i. changing_at one_of n d (with_guard true) _ (λ y. refl) ∙ set_at one_of n d r _ s.0 h refl ∙ i;
+  sets_swallows = λ d r s x h f. record {
+    each = λ n i. changing_at one_of n d (with_swallows true) _ (λ y. refl) ∙ set_at one_of n d r _ s.0 h refl ∙ i;
   };
   fires = λ d value r s x h f. record { each = λ n i. set_at one_of n d r _ s.0 h refl ∙ i };
   adds = λ d pair r s x h. record { each = λ n i. set_at one_of n d r _ s.0 h refl ∙ i };
@@ -139,7 +141,7 @@ lasting_on = record {
   by_append = λ d pair w. on w (append d pair w) (append_stays d pair w);
   by_make = λ name canceller w. on w (make name canceller w) (make_stays name canceller w);
   by_fire = λ d value w. on w (fire d value w).1 (fire_stays d value w);
-  by_fire_guarded = λ d w. on w (fire_guarded d w) (fire_guarded_stays d w);
+  by_fire_then_swallow = λ d w. on w (fire_then_swallow d w) (fire_then_swallow_stays d w);
   by_cancel = λ d w. on w (cancel d w).1 (cancel_stays d w);
   by_pause = λ d w. on w (pause d w) (pause_stays d w);
   by_unpause = λ d w. on w (unpause d w).1 (unpause_stays d w);
@@ -257,11 +259,12 @@ quiet_bound = record {
   };
 }
 
-guarded_names : (d : ℕ) (w : World) → Same w (fire_guarded d w)
-unfolding fire_guarded
-guarded_names d w =
+swallows_names : (d : ℕ) (w : World) → Same w (fire_then_swallow d w)
+unfolding fire_then_swallow
+swallows_names d w =
     unless w (Same w) refl refl w.stopped _
-    (fire_cases w (λ answer s. Same w (guarded d answer s w)) refl d cancelled _ refl (λ g. refl) (λ r x g q. refl)
+    (fire_cases w (λ answer s. Same w (fired_then_swallows d answer s w)) refl d cancelled _ refl (λ g. refl)
+    (λ r x g q. refl)
     (λ r x g p q. refl) (λ r x g p. refl))
 
 fire_names : (d : ℕ) (value : Value) (w : World) → Same w (fire d value w).1
@@ -305,8 +308,8 @@ step_bound (steps.Name d name) w m b = name_bound d name w m b
 step_bound (steps.Append d pair) w m b =
     bound_by w (append d pair w) (grows w _ (step_comes (steps.Append d pair) w))
     (append_cases w (Same w) refl refl d pair (λ r x g. refl)) b
-step_bound (steps.FireGuarded d) w m b =
-    bound_by w (fire_guarded d w) (grows w _ (step_comes (steps.FireGuarded d) w)) (guarded_names d w) b
+step_bound (steps.FireThenSwallow d) w m b =
+    bound_by w (fire_then_swallow d w) (grows w _ (step_comes (steps.FireThenSwallow d) w)) (swallows_names d w) b
 step_bound (steps.Withdraw k d) w m b =
     bound_by w (withdraw k d w) (grows w _ (step_comes (steps.Withdraw k d) w)) (withdraw_names k d w) b
 step_bound (steps.Advance ticks) w m b =
@@ -382,15 +385,15 @@ abbrev pub Answers : (question : Question) → Reply question → World → Type
 Answers (steps.Cancel d) r w = MadeReached r w
 Answers (steps.PutInto k v) r w = Unit {0}
 Answers (steps.GetFrom k d) r w = Unit {0}
-Answers (steps.CameTo l i v) r w = Unit {0}
+Answers (steps.ChildFired l i v) r w = Unit {0}
 Answers (steps.CancelCall number) p w = MadeResult p w
 Answers (steps.ResetCall number from delay) p w = MadeResult p w
 Answers (steps.BeginBody declared) r w = Unit {0}
 Answers steps.TakeStep r w = Unit {0}
 Answers (steps.EndTask t end) r w = Unit {0}
-Answers (steps.ComeToInline i v) r w = Unit {0}
+Answers (steps.ResumeInline i v) r w = Unit {0}
 Answers (steps.EndAwait i e p) r w = Unit {0}
-Answers steps.ComeDue r w = Unit {0}
+Answers steps.TakeDue r w = Unit {0}
 Answers (steps.Moves d) move w = MadeMove d move w
 
 -- a rule, begun in a world, returns, binds and calls for such Deferreds alone
@@ -558,7 +561,7 @@ answers_made : (question : Question) (w : World) → (let a = steps.asked questi
 answers_made (steps.Cancel d) w = cancel_made d w
 answers_made (steps.PutInto k v) w = tt
 answers_made (steps.GetFrom k d) w = tt
-answers_made (steps.CameTo l i v) w = tt
+answers_made (steps.ChildFired l i v) w = tt
 answers_made (steps.CancelCall number) w =
     plain_made (cancel_call number w).0 (cancel_call number w).1 (off_plain number w)
 answers_made (steps.ResetCall number from delay) w =
@@ -566,9 +569,9 @@ answers_made (steps.ResetCall number from delay) w =
 answers_made (steps.BeginBody declared) w = tt
 answers_made steps.TakeStep w = tt
 answers_made (steps.EndTask t end) w = tt
-answers_made (steps.ComeToInline i v) w = tt
+answers_made (steps.ResumeInline i v) w = tt
 answers_made (steps.EndAwait i e p) w = tt
-answers_made steps.ComeDue w = tt
+answers_made steps.TakeDue w = tt
 answers_made (steps.Moves d) w = move_made d w
 
 -- 5. The law: what a sound rule returns and calls for is made, and names stay bound to what is.

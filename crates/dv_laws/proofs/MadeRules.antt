@@ -14,9 +14,9 @@ use Rattle.dv_script.specs.declared.event.Event.TheVariants as event
 use Rattle.dv_script.specs.declared.work.Work.{Work}
 use Rattle.dv_clock.specs.declared.due.Due.{Due}
 use Rattle.dv_clock.specs.declared.due.Due.TheVariants as what
-use Rattle.dv_inline.specs.Position.{Position, come, want_at}
-use Rattle.dv_inline.specs.declared.want.Want.{Want}
-use Rattle.dv_inline.specs.declared.want.Want.TheVariants.{Do, Await}
+use Rattle.dv_inline.specs.Position.{Position, run_to_request, request_at}
+use Rattle.dv_inline.specs.declared.request.Request.{Request}
+use Rattle.dv_inline.specs.declared.request.Request.TheVariants.{Do, Await}
 use Rattle.dv_prims.specs.declared.gather.Flags.{Flags}
 use Rattle.dv_objects.specs.Names.{number_of}
 use Rattle.dv_objects.specs.Pair.{Pair, callback, errback, both, chain, side_for}
@@ -35,7 +35,7 @@ use Rattle.dv_definition.specs.Definition as page
 use Rattle.dv_definition.specs.Flags as page_flags
 use Rattle.dv_definition.specs.Rule.{Rule, Fires, run}
 use Rattle.dv_definition.specs.Scripts as scripts
-use Rattle.dv_definition.specs.Scripts.{Occurrence, Occurs, Comes}
+use Rattle.dv_definition.specs.Scripts.{Occurrence, Occurs, Posts}
 use Rattle.dv_definition.specs.Steps as steps
 use Rattle.dv_definition.specs.Steps.{stepped}
 use Rattle.dv_definition.specs.Words as words
@@ -216,13 +216,13 @@ rest_sound itself (action ∷ rest) end input w b m =
     let u = (run first w).2 in
     (carry_sound itself (out-Action action) w, (itself_on itself w u (grows w u (rule_comes first w)) m, tt))
 
-wanted_sound : (i : Inline) (o : Option Want) (p : Position) (w : World) → Sound w (page.do_wanted i o p)
-wanted_sound i None p w = tt
-wanted_sound i (Some (Do action)) p w = (carry_sound (Some i.of) (out-Action action) w, (tt, tt))
-wanted_sound i (Some (Await name)) p w = await_sound i name p w
+requested_sound : (i : Inline) (o : Option Request) (p : Position) (w : World) → Sound w (page.do_requested i o p)
+requested_sound i None p w = tt
+requested_sound i (Some (Do action)) p w = (carry_sound (Some i.of) (out-Action action) w, (tt, tt))
+requested_sound i (Some (Await name)) p w = await_sound i name p w
 
 inline_sound : (x : Inlining) (o : Performed) (w : World) → Sound w (scripts.inline_goes x o)
-inline_sound (Goes i p) o w = (wanted_sound i (want_at (come p)) (come p) w, λ result q. tt)
+inline_sound (Goes i p) o w = (requested_sound i (request_at (run_to_request p)) (run_to_request p) w, λ result q. tt)
 inline_sound (Acted i p) o w = (tt, (tt, tt))
 inline_sound (Awaited i e p) o w = λ came h. (tt, λ x q. (tt, (tt, tt)))
 
@@ -277,7 +277,7 @@ side_sound d (Some (side.Fire e)) input w m = tt
 side_sound d (Some (side.Timed t)) input w m = tt
 side_sound d (Some (side.OnTimeout t body)) input w m = ((tt, (m, tt)), tt)
 side_sound d (Some (side.EndTimer t)) input w m = (tt, tt)
-side_sound d (Some (side.Come child)) input w m = λ came h. ((tt, λ v q. (tt, tt)), (tt, tt))
+side_sound d (Some (side.Report child)) input w m = λ came h. ((tt, λ v q. (tt, tt)), (tt, tt))
 side_sound d (Some side.Results) input w m = (tt, λ v q. tt)
 side_sound d (Some (side.Hold l body)) input w m = body_sound (Holding l) body w
 side_sound d (Some (side.Release l)) input w m = (release_sound l w, (tt, tt))
@@ -329,4 +329,4 @@ pub happens_sound : (occurrence : Occurrence) (w : World) → Sound w (scripts.h
 happens_sound (Occurs (event.Action action)) w = (carry_sound None (out-Action action) w, (tt, tt))
 happens_sound (Occurs (event.Advance ticks)) w = (tt, (tt, (tt, tt)))
 happens_sound (Occurs (event.Drain most)) w = (tt, tt)
-happens_sound (Comes posted body) w = (tt, (tt, (tt, (tt, tt))))
+happens_sound (Posts posted body) w = (tt, (tt, (tt, (tt, tt))))

@@ -22,9 +22,9 @@ use Rattle.dv_world.specs.Found.{deferreds_at}
 use Rattle.dv_world.specs.World.{World, step, cancel, make}
 use Rattle.dv_objects.specs.Objects.{inlining}
 use Rattle.dv_objects.specs.declared.inline_id.Inline.{Inline}
-use Rattle.dv_inline.specs.Position.{Position, come, want_at}
-use Rattle.dv_inline.specs.declared.want.Want.{Want}
-use Rattle.dv_inline.specs.declared.want.Want.TheVariants.{Do, Await}
+use Rattle.dv_inline.specs.Position.{Position, run_to_request, request_at}
+use Rattle.dv_inline.specs.declared.request.Request.{Request}
+use Rattle.dv_inline.specs.declared.request.Request.TheVariants.{Do, Await}
 use Rattle.dv_objects.specs.declared.follow.Follow.{Follow}
 use Rattle.dv_objects.specs.declared.follow.Follow.TheVariants as follow
 use Rattle.std.proofs.Common.{sym, ap, subst, ◌∙◌, cond}
@@ -170,21 +170,21 @@ AsksCalmly w (steps.Cancel of) rule = (d k : ℕ) → IsWithdrawing d k (rule (r
 AsksCalmly w (steps.PutInto k v) rule = (who : ℕ × Value) → IsFiring who.0 who.1 (rule (Some who))
 AsksCalmly w (steps.GetFrom k d) rule =
     (w.stopped ≡ false → IsMade k d w.records) × ((v : Value) → IsFiring d v (rule (Some v)))
-AsksCalmly w (steps.CameTo l i v) rule = Unit {0}
+AsksCalmly w (steps.ChildFired l i v) rule = Unit {0}
 AsksCalmly w (steps.CancelCall number) rule = Unit {0}
 AsksCalmly w (steps.ResetCall number from delay) rule = Unit {0}
 AsksCalmly w (steps.BeginBody declared) rule = Unit {0}
 AsksCalmly w steps.TakeStep rule = Unit {0}
 AsksCalmly w (steps.EndTask t end) rule = Unit {0}
-AsksCalmly w (steps.ComeToInline i v) rule = Unit {0}
+AsksCalmly w (steps.ResumeInline i v) rule = Unit {0}
 AsksCalmly w (steps.EndAwait i e p) rule = Unit {0}
-AsksCalmly w steps.ComeDue rule = Unit {0}
+AsksCalmly w steps.TakeDue rule = Unit {0}
 AsksCalmly w (steps.Moves d) rule = ⊥
 
 -- so it does after a pair was added to d, and after d was fired since it was cancelled
 abbrev pub Follows : steps.Step → Rule → Type 0
 Follows (steps.Append d pair) rule = CallsToSettle d rule
-Follows (steps.FireGuarded d) rule = CallsToSettle d rule
+Follows (steps.FireThenSwallow d) rule = CallsToSettle d rule
 Follows step rule = Unit {0}
 
 -- a rule, begun in a world, takes such steps alone, each with what follows it, and leaves nothing to be put in place
@@ -501,13 +501,13 @@ rest_mild : (itself : Option ℕ) (actions : List Action) (end : End) (input : V
 rest_mild itself [] end input w = (tt, λ declared. (tt, λ begun. (tt, λ body. (tt, (tt, tt)))))
 rest_mild itself (action ∷ rest) end input w = (carry_mild itself (out-Action action) w, (tt, tt))
 
-wanted_mild : (i : Inline) (o : Option Want) (p : Position) (w : World) → Mildly None w (page.do_wanted i o p)
-wanted_mild i None p w = tt
-wanted_mild i (Some (Do action)) p w = (carry_mild (Some i.of) (out-Action action) w, (tt, tt))
-wanted_mild i (Some (Await name)) p w = await_mild i name p w
+requested_mild : (i : Inline) (o : Option Request) (p : Position) (w : World) → Mildly None w (page.do_requested i o p)
+requested_mild i None p w = tt
+requested_mild i (Some (Do action)) p w = (carry_mild (Some i.of) (out-Action action) w, (tt, tt))
+requested_mild i (Some (Await name)) p w = await_mild i name p w
 
 inline_mild : (x : Inlining) (o : Performed) (w : World) → Mildly None w (scripts.inline_goes x o)
-inline_mild (Goes i p) o w = (wanted_mild i (want_at (come p)) (come p) w, λ result. tt)
+inline_mild (Goes i p) o w = (requested_mild i (request_at (run_to_request p)) (run_to_request p) w, λ result. tt)
 inline_mild (Acted i p) o w = search [] depth 20
 inline_mild (Awaited i e p) o w = awaited_mild i e p w
 
@@ -576,7 +576,7 @@ rule_mild (frame.Tick units) p w m = (
   (tt, λ taken. (ended_mild w, λ now. ((end_mild now.0 Finished w, λ body. (tt, (tt, (tt, tt)))), (tt, tt)))),
 )
 rule_mild frame.Tell p w m = search [] depth 20
-rule_mild frame.Due p w m = (tt, λ o. due_mild o (world.come_due w).1)
+rule_mild frame.Due p w m = (tt, λ o. due_mild o (world.take_due w).1)
 rule_mild (frame.Inline x) p w m = inline_mild x p w
 
 pub side_rule_mild : (d : ℕ) (s : Option Side) (input : Value) (w : World) → Mildly None w (page.run_side d s input)
@@ -586,7 +586,7 @@ side_rule_mild d (Some (side.Fire e)) input w = tt
 side_rule_mild d (Some (side.Timed t)) input w = search [] depth 20
 side_rule_mild d (Some (side.OnTimeout t body)) input w = search [] depth 20
 side_rule_mild d (Some (side.EndTimer t)) input w = search [] depth 20
-side_rule_mild d (Some (side.Come child)) input w = search [] depth 20
+side_rule_mild d (Some (side.Report child)) input w = search [] depth 20
 side_rule_mild d (Some side.Results) input w = search [] depth 20
 side_rule_mild d (Some (side.Hold l body)) input w = search [] depth 20
 side_rule_mild d (Some (side.Release l)) input w = search [] depth 20

@@ -12,8 +12,8 @@ use Rattle.dv_journal.specs.Journal.{Written}
 use Rattle.dv_script.specs.declared.script.Script.{Script}
 use Rattle.dv_store.specs.Callbacks.{with_handed, with_result}
 use Rattle.dv_store.specs.Chaining as chaining
-use Rattle.dv_store.specs.Cancelling.{guard}
-use Rattle.dv_store.specs.Fire.{with_firing, with_guard}
+use Rattle.dv_store.specs.Cancelling.{swallow_next}
+use Rattle.dv_store.specs.Fire.{with_firing, with_swallows}
 use Rattle.dv_store.specs.Pausing.{with_pauses}
 use Rattle.dv_store.specs.Record.{with_item, new_record, changing}
 use Rattle.dv_store.specs.declared.record.Item.TheVariants as item
@@ -52,7 +52,7 @@ marked_once_at None = omega arith
 marked_once_at (Some r) = elim r.swallows as (λ b. ◌≤◌ (cond b 1 0) 1) [ true ↦ omega arith | false ↦ omega arith ]
 
 -- a mark that is set counts one at most
-marks_more : (r : Kind) → marks_of (with_guard true r) ≤ marks_of r + 1
+marks_more : (r : Kind) → marks_of (with_swallows true r) ≤ marks_of r + 1
 marks_more r = omega arith
 
 -- one more entry, before which n was fired if it is a further firing
@@ -165,37 +165,37 @@ not_swallowed : (n : ℕ) (e : Entry) → change_of e ≡ Aside → entry.Swallo
 not_swallowed n e a q = let same : Swallows n ≡ Aside = ap change_of q ∙ a in absurd cc
 
 -- a firing by a cancel, by whether it is of n
-guarded_source : (b : Bool) (n d : ℕ) (before after : ℕ) → nat_eq d n ≡ b → after ≤ before + cond b 1 0 → before ≤ 1
+swallows_source : (b : Bool) (n d : ℕ) (before after : ℕ) → nat_eq d n ≡ b → after ≤ before + cond b 1 0 → before ≤ 1
     → after ≡ 1 → (before ≡ 1) ⊎ (entry.Fire n cancelled ≡ entry.Fire d cancelled)
-guarded_source true n d before after e h k m = inr (ap (λ x. entry.Fire x cancelled) (sym (eqb-true d n e)))
-guarded_source false n d before after e h k m = inl (omega (arith, h, k, m))
+swallows_source true n d before after e h k m = inr (ap (λ x. entry.Fire x cancelled) (sym (eqb-true d n e)))
+swallows_source false n d before after e h k m = inl (omega (arith, h, k, m))
 
-pub guards_tell : (n d : ℕ) (r : Kind) (s : Both) → slice_get s.0 d ≡ Some r → r.fired ≡ false
-    → Tells n (entry.Fire d cancelled) (guard d (slice_set s.0 d (with_firing cancelled r))) s
-guards_tell n d r s h f =
+pub sets_swallows_tell : (n d : ℕ) (r : Kind) (s : Both) → slice_get s.0 d ≡ Some r → r.fired ≡ false
+    → Tells n (entry.Fire d cancelled) (swallow_next d (slice_set s.0 d (with_firing cancelled r))) s
+sets_swallows_tell n d r s h f =
     let fired = slice_set s.0 d (with_firing cancelled r) in
-    let more : marked_at n (guard d fired) ≤ marked_at n s.0 + cond (nat_eq d n) 1 0 =
+    let more : marked_at n (swallow_next d fired) ≤ marked_at n s.0 + cond (nat_eq d n) 1 0 =
     omega (
       arith,
-      more_at marks_of n d (with_guard true) fired marks_more,
+      more_at marks_of n d (with_swallows true) fired marks_more,
       set_at marks_of n d r (with_firing cancelled r) s.0 h refl,
     ) in
     record {
       due =
-          changing_at fired_of n d (with_guard true) fired (λ y. refl)
+          changing_at fired_of n d (with_swallows true) fired (λ y. refl)
           ∙ first_at fired_of n d r (with_firing cancelled r) s.0 h (rw f refl) refl;
       marked = omega (arith, more);
       refused = λ q. absurd cc;
       swallowed = λ q. absurd cc;
-      source = guarded_source _ n d (marked_at n s.0) _ refl more (marked_once_at (slice_get s.0 n));
+      source = swallows_source _ n d (marked_at n s.0) _ refl more (marked_once_at (slice_get s.0 n));
     }
 
 pub swallows_tell : (n d : ℕ) (r : Kind) (s : Both) → slice_get s.0 d ≡ Some r → r.swallows ≡ true
-    → Tells n (entry.Swallow d) (slice_set s.0 d (with_guard false r)) s
+    → Tells n (entry.Swallow d) (slice_set s.0 d (with_swallows false r)) s
 swallows_tell n d r s h f =
-    let less = last_at marks_of n d r (with_guard false r) s.0 h (rw f refl) refl in
+    let less = last_at marks_of n d r (with_swallows false r) s.0 h (rw f refl) refl in
     record {
-      due = omega (arith, set_at fired_of n d r (with_guard false r) s.0 h refl);
+      due = omega (arith, set_at fired_of n d r (with_swallows false r) s.0 h refl);
       marked = omega (arith, less);
       refused = λ q. absurd cc;
       swallowed = λ q. cc;
@@ -228,7 +228,7 @@ counts n = record {
   refuses = λ d r s x h f. told n (entry.Refuse d) _ s refl (omega arith) refl (λ q. cc) (λ q. absurd cc);
   swallows = λ d r s x h f. tells n (entry.Swallow d) _ s (swallows_tell n d r s h f);
   cancels = λ d s x. plain n (entry.Cancel d) _ s refl refl refl refl (λ q. absurd cc) (λ q. absurd cc);
-  guards = λ d r s x h f. tells n (entry.Fire d cancelled) _ s (guards_tell n d r s h f);
+  sets_swallows = λ d r s x h f. tells n (entry.Fire d cancelled) _ s (sets_swallows_tell n d r s h f);
   fires = λ d value r s x h f.
       told n (entry.Fire d value) _ s refl (first_at fired_of n d r (with_firing value r) s.0 h (rw f refl) refl)
       (set_at marks_of n d r (with_firing value r) s.0 h refl) (λ q. absurd cc) (λ q. absurd cc);

@@ -156,9 +156,10 @@ still n = record {
       λ d r w x h p. plain n (entry.Swallow d) _ (state_of w) refl refl refl (set_at pairs_of n d r _ w.records h refl)
       (set_at running_of n d r _ w.records h refl);
   cancels = λ d w x. plain n (entry.Cancel d) _ (state_of w) refl refl refl refl refl;
-  guards = λ d r w x h f c. plain n (entry.Fire d cancelled) _ (state_of w) refl refl refl
-      (changing_at pairs_of n d (firing.with_guard true) _ (λ y. refl) ∙ set_at pairs_of n d r _ w.records h refl)
-      (changing_at running_of n d (firing.with_guard true) _ (λ y. refl) ∙ set_at running_of n d r _ w.records h refl);
+  sets_swallows = λ d r w x h f c. plain n (entry.Fire d cancelled) _ (state_of w) refl refl refl
+      (changing_at pairs_of n d (firing.with_swallows true) _ (λ y. refl) ∙ set_at pairs_of n d r _ w.records h refl)
+      (changing_at running_of n d (firing.with_swallows true) _ (λ y. refl)
+      ∙ set_at running_of n d r _ w.records h refl);
   fires =
       λ d value r w x h f. plain n (entry.Fire d value) _ (state_of w) refl refl refl
       (set_at pairs_of n d r _ w.records h refl) (set_at running_of n d r _ w.records h refl);

@@ -4,7 +4,7 @@ use Rattle.std.proofs.Common.{Option, None, Some, refl, sym, ap, subst, ◌∙�
 use Rattle.std.proofs.Common.{cond, length, inl, inr}
 use Rattle.std.proofs.lemmas.Option.{none-some, slice_get_within}
 use Rattle.dv_clock.specs.Clock.{Clock, Upcoming, next_call, with_call, ended, moved}
-use Rattle.dv_clock.specs.Due.{scheduling, coming_due}
+use Rattle.dv_clock.specs.Due.{scheduling, entry_when_due}
 use Rattle.dv_clock.specs.declared.call.Call.{Call}
 use Rattle.dv_clock.specs.declared.call.CallState.{CallState}
 use Rattle.dv_clock.specs.declared.call.CallState.TheVariants as call_state
@@ -468,7 +468,7 @@ not_run e v p q = none-some v (sym p ∙ ap ended_by q ∙ run_ends v)
 
 -- the call that runs is the one that was logged
 same_due : (v : Timed) (c : Clock) (call : Upcoming) (due : ℕ) (entries : List Entry) → next_call c ≡ Some call
-    → AllTold c.calls entries → coming_due call.what ≡ run_of v → ScheduledOnce v due entries → due ≡ call.due
+    → AllTold c.calls entries → entry_when_due call.what ≡ run_of v → ScheduledOnce v due entries → due ≡ call.due
 same_due v c call due entries n told q s =
     let first = first_runs_next c call n in
     let same : timed_of call.what ≡ Some v = sym (coming_is call.what) ∙ ap ended_by q ∙ run_ends v in
@@ -477,10 +477,11 @@ same_due v c call due entries n told q s =
     (told.each call.number call.due call.what first.waits) (once_unmoved v call.what due entries same s)))
 
 runs_tell : (t u : Timed) (c : Clock) (call : Upcoming) (entries : List Entry) → next_call c ≡ Some call
-    → Ordered t u c entries → Ordered t u (ended call.number call_state.Called c) (entries ++ coming_due call.what ∷ [])
+    → Ordered t u c entries
+    → Ordered t u (ended call.number call_state.Called c) (entries ++ entry_when_due call.what ∷ [])
 runs_tell t u c call entries n k =
     let first = first_runs_next c call n in
-    let e = coming_due call.what in
+    let e = entry_when_due call.what in
     let d = ended call.number call_state.Called c in
     ordered t u e c d entries (clocks_tell u e c _ entries (Runs call n refl) k.base) k.within
     (ends_so t u e c call.number call_state.Called entries called_ended k)
@@ -602,7 +603,7 @@ still t u = record {
   refuses = λ d r w x h p q. plain t u (entry.Refuse d) w _ (refl, refl, refl) refl refl refl;
   swallows = λ d r w x h p. plain t u (entry.Swallow d) w _ (refl, refl, refl) refl refl refl;
   cancels = λ d w x. plain t u (entry.Cancel d) w _ (refl, refl, refl) refl refl refl;
-  guards = λ d r w x h f c. plain t u (entry.Fire d cancelled) w _ (refl, refl, refl) refl refl refl;
+  sets_swallows = λ d r w x h f c. plain t u (entry.Fire d cancelled) w _ (refl, refl, refl) refl refl refl;
   fires = λ d value r w x h f. plain t u (entry.Fire d value) w _ (refl, refl, refl) refl refl refl;
   adds = λ d pair r w x h. plain t u (entry.Add d) w _ (refl, refl, refl) refl refl refl;
   pauses = λ d r w x h. plain t u (entry.Pause d) w _ (refl, refl, refl) refl refl refl;

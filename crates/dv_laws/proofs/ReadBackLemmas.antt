@@ -11,7 +11,7 @@ use Rattle.dv_journal.specs.declared.entry.Entry.TheVariants as entry
 use Rattle.dv_journal.specs.Journal.{Written}
 use Rattle.dv_script.specs.declared.script.Script.{Script}
 use Rattle.dv_store.specs.Chaining as chaining
-use Rattle.dv_store.specs.Fire.{with_guard}
+use Rattle.dv_store.specs.Fire.{with_swallows}
 use Rattle.dv_store.specs.Record.{with_item, new_record, changed, changing}
 use Rattle.dv_store.specs.declared.record.Item.TheVariants as item
 use Rattle.dv_laws.specs.ReadBack.{Shown, with_firing, with_value, with_wait, with_handed, with_pause, without_pause}
@@ -123,8 +123,8 @@ reads = record {
   refuses = λ d r s x h f. tells (entry.Refuse d) _ s (λ n. refl);
   swallows = λ d r s x h f. tells (entry.Swallow d) _ s (λ n. set_hidden n d r _ s.0 h refl);
   cancels = λ d s x. tells (entry.Cancel d) _ s (λ n. refl);
-  guards = λ d r s x h f. tells (entry.Fire d cancelled) _ s
-      (λ n. changing_hidden n d (with_guard true) _ (λ y. refl) ∙ set_at n d (with_firing cancelled) r _ s.0 h refl);
+  sets_swallows = λ d r s x h f. tells (entry.Fire d cancelled) _ s
+      (λ n. changing_hidden n d (with_swallows true) _ (λ y. refl) ∙ set_at n d (with_firing cancelled) r _ s.0 h refl);
   fires = λ d value r s x h f. tells (entry.Fire d value) _ s (λ n. set_at n d (with_firing value) r _ s.0 h refl);
   adds = λ d pair r s x h. tells (entry.Add d) _ s (λ n. set_hidden n d r _ s.0 h refl);
   runs = λ d pair r rest s x h e. tells (entry.Run d) _ s (λ n. set_hidden n d r _ s.0 h refl);

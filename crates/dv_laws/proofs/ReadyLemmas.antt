@@ -98,8 +98,8 @@ still n = record {
   cancels =
       λ d w x. plain n (entry.Cancel d) (state_of w) _ refl (reads.cancels d (state_of w) x) (λ z. absurd cc)
       (λ m value z. absurd cc);
-  guards =
-      λ d r w x h f c. plain n (entry.Fire d cancelled) (state_of w) _ refl (reads.guards d r (state_of w) x h f)
+  sets_swallows =
+      λ d r w x h f c. plain n (entry.Fire d cancelled) (state_of w) _ refl (reads.sets_swallows d r (state_of w) x h f)
       (λ z. absurd cc) (λ m value z. absurd cc);
   fires =
       λ d value r w x h f. plain n (entry.Fire d value) (state_of w) _ refl (reads.fires d value r (state_of w) x h f)

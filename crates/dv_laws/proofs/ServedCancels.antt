@@ -28,7 +28,7 @@ use Rattle.dv_laws.proofs.ReadBackLemmas.{ReadsBack, reads}
 use Rattle.dv_laws.proofs.ServedLemmas.{Served, rests_next, fire_goes}
 use Rattle.dv_laws.proofs.ServedLines.{line_of, named, named_set, line_own, line_set, line_same, given_none}
 use Rattle.dv_laws.proofs.ServedLines.{without_absent, still_waiting, waits_in}
-use Rattle.dv_laws.proofs.ServedWaiters.{ItemReached, item_reached, same_queue, not_cancelled, ends_comes}
+use Rattle.dv_laws.proofs.ServedWaiters.{ItemReached, item_reached, same_queue, not_cancelled, ends_reaches}
 use Rattle.dv_laws.proofs.ServedWaiters.{alike_set, Waiters, Fewer, fewer_same, fewer_set}
 use Rattle.dv_laws.proofs.Steps.{telling_in}
 
@@ -239,7 +239,7 @@ module _ (name : List ℕ) (of d k : ℕ) (w : World) (s : w.stopped ≡ false)
         of = of;
         before = w.journal.entries;
         last = refl;
-        comes = ends_comes w.records w.journal.entries served.back of d (item_reached of d k w.records e).ends;
+        reaches = ends_reaches w.records w.journal.entries served.back of d (item_reached of d k w.records e).ends;
       } in
       let leads : queues_made name (told ++ last ∷ []) ≤ 1 → Leads name (told ++ last ∷ []) (line_of name left_queues) =
       λ c. let one : named name w.objects.queues ≤ 1 = omega (arith, c, count) in

@@ -19,7 +19,7 @@ use Rattle.dv_world.specs.World.{reached_from}
 use Rattle.dv_laws.specs.Served.{made_by, queues_made, Line, line, Firing, Fired, Refused, IsCancelled, IsTakenOut}
 use Rattle.dv_laws.specs.Served.{Next}
 use Rattle.dv_laws.specs.Served.{Fires, Rests, Leads, Goes}
-use Rattle.dv_laws.specs.Swallowed.{ComesTo}
+use Rattle.dv_laws.specs.Swallowed.{Reaches}
 use Rattle.dv_laws.specs.Stored.{Unqueued, queueing_of, puts_by, gets_by}
 use Rattle.dv_laws.proofs.At.{counted_of, at}
 use Rattle.dv_laws.proofs.Calm.{ReachesNoItem}
@@ -158,11 +158,11 @@ cancel_served name of w s x m k =
     cancels_same : (n of : ℕ) → entry.Cancel of ≡ entry.Cancel n → n ≡ of
     cancels_same n of q = cc
 
-    cancel_is : (told : List Entry) (of d : ℕ) → IsCancelled d (told ++ entry.Cancel of ∷ []) → ComesTo of d told
+    cancel_is : (told : List Entry) (of d : ℕ) → IsCancelled d (told ++ entry.Cancel of ∷ []) → Reaches of d told
     cancel_is told of d c =
         let found = last_is told c.before (entry.Cancel of) (entry.Cancel c.of) c.last in
         let same : c.of ≡ of = cancels_same c.of of found.1 in
-        subst (λ l. ComesTo of d l) (sym found.0) (subst (λ n. ComesTo n d c.before) same c.comes)
+        subst (λ l. Reaches of d l) (sym found.0) (subst (λ n. Reaches n d c.before) same c.reaches)
 
 -- 2. Who is given a value, and is to be fired with it.
 

@@ -9,10 +9,10 @@ use Rattle.dv_journal.specs.Told.{change_of, Aside, Fires, Cancels}
 use Rattle.dv_journal.specs.declared.entry.Entry.{Entry}
 use Rattle.dv_journal.specs.declared.entry.Entry.TheVariants as entry
 use Rattle.dv_script.specs.declared.script.Script.{Script}
-use Rattle.dv_store.specs.Cancelling.{guard}
+use Rattle.dv_store.specs.Cancelling.{swallow_next}
 use Rattle.dv_store.specs.Callbacks.{with_handed, with_result}
 use Rattle.dv_store.specs.Chaining as chaining
-use Rattle.dv_store.specs.Fire.{with_firing, with_guard}
+use Rattle.dv_store.specs.Fire.{with_firing, with_swallows}
 use Rattle.dv_store.specs.Pausing.{with_pauses}
 use Rattle.dv_store.specs.Record.{with_item, changing}
 use Rattle.dv_store.specs.declared.record.Item.{Item}
@@ -28,7 +28,8 @@ use Rattle.dv_prims.specs.Queue.{Queue, new_queue}
 use Rattle.dv_loop.specs.Meaning.{Means}
 use Rattle.dv_loop.proofs.Kept.{Kind}
 use Rattle.dv_loop.proofs.Leading.{scripts_mean_what_is_defined}
-use Rattle.dv_world.specs.World.{World, state_of, with_state, with_stop, fire, fired, fire_guarded, guarded}
+use Rattle.dv_world.specs.World.{World, state_of, with_state, with_stop, fire, fired, fire_then_swallow}
+use Rattle.dv_world.specs.World.{fired_then_swallows}
 use Rattle.dv_world.specs.World.{cancel, reached_from, make, pause, unpause, append, aside, submit}
 use Rattle.dv_laws.specs.Served.{made_by, queues_made, Leads, Begins, ServesInOrder}
 use Rattle.dv_laws.specs.Served.{QueuesServeInOrder}
@@ -42,11 +43,11 @@ use Rattle.dv_laws.proofs.ServedLemmas.{Served, plain, not_taken, served_rest, c
 use Rattle.dv_laws.proofs.ServedLines.{named, named_of, line_of, line_push, given_none}
 use Rattle.dv_laws.proofs.ServedSteps.{put_served, get_served}
 use Rattle.dv_laws.proofs.ServedWaiters.{Alike, alike_same, alike_join, alike_set, alike_changing, alike_push}
-use Rattle.dv_laws.proofs.ServedWaiters.{alike_unmarked, alike_guard, plain_reached, not_cancelled, Waiters}
+use Rattle.dv_laws.proofs.ServedWaiters.{alike_unmarked, alike_swallows, plain_reached, not_cancelled, Waiters}
 use Rattle.dv_laws.proofs.ServedWaiters.{Fewer, fewer_push}
 use Rattle.dv_laws.proofs.OnceLemmas.{fired_of}
 use Rattle.dv_laws.proofs.Settles.{Settles, means_keeps}
-use Rattle.dv_laws.proofs.Stays.{live, append_stays, make_stays, fire_stays, fire_guarded_stays, cancel_stays}
+use Rattle.dv_laws.proofs.Stays.{live, append_stays, make_stays, fire_stays, fire_then_swallow_stays, cancel_stays}
 use Rattle.dv_laws.proofs.Stays.{pause_stays, unpause_stays, aside_stays, submit_stays}
 use Rattle.dv_laws.proofs.Steps.{telling_in, append_cases, pause_cases, make_cases, aside_cases, arrange_cases}
 use Rattle.dv_laws.proofs.Steps.{submit_cases, cancel_cases, unpause_cases, fire_cases, unless, unless_and}
@@ -142,7 +143,7 @@ module _ (name : List ℕ) (d : ℕ) (w : World) (s : w.stopped ≡ false) where
 
   swallow_rests : (r : Kind) → fits w.journal (entry.Swallow d) ≡ true → slice_get w.records d ≡ Some r
       → r.swallows ≡ true
-      → Goes name w (telling_in (entry.Swallow d) (slice_set w.records d (with_guard false r)) w)
+      → Goes name w (telling_in (entry.Swallow d) (slice_set w.records d (with_swallows false r)) w)
   swallow_rests r x g p =
       rests name (entry.Swallow d) w _ s refl refl refl (λ of q. absurd cc) (λ n q. absurd cc)
       (reads.swallows d r (state_of w) x g p) (alike_unmarked d r w.records g)
@@ -156,13 +157,14 @@ module _ (name : List ℕ) (d : ℕ) (w : World) (s : w.stopped ≡ false) where
         (alike_set d r (with_firing value r) w.records g refl refl) k;
   }
 
-  guard_rests : WasCancelled d w → (r : Kind) → fits w.journal (entry.Fire d cancelled) ≡ true
+  swallows_rests : WasCancelled d w → (r : Kind) → fits w.journal (entry.Fire d cancelled) ≡ true
       → slice_get w.records d ≡ Some r → r.fired ≡ false
-      → Goes name w (telling_in (entry.Fire d cancelled) (guard d (slice_set w.records d (with_firing cancelled r))) w)
-  guard_rests c r x g p = record {
+      → Goes name w
+      (telling_in (entry.Fire d cancelled) (swallow_next d (slice_set w.records d (with_firing cancelled r))) w)
+  swallows_rests c r x g p = record {
     goes_on = λ k. plain name (entry.Fire d cancelled) w _ s refl refl refl (λ of q. absurd cc)
-        (not_taken name d cancelled r w s g p k) (reads.guards d r (state_of w) x g p)
-        (alike_guard d r w.records g (λ j. plain_reached c.of d j w.records c.reaches)) k;
+        (not_taken name d cancelled r w s g p k) (reads.sets_swallows d r (state_of w) x g p)
+        (alike_swallows d r w.records g (λ j. plain_reached c.of d j w.records c.reaches)) k;
   }
 
   -- whom a cancel reaches is answered, where that is logged
@@ -193,13 +195,13 @@ module _ (name : List ℕ) where
       (λ r x g q. swallow_rests name d w s r x g q) (λ r x g p q. refuse_rests name d w s r x g p)
       (λ r x g p. fire_rests name d w s value r x g p))
 
-  after_guarded : (d : ℕ) (w : World) → WasCancelled d w → w.stopped ≡ false → Goes name w (fire_guarded d w)
-  unfolding fire_guarded
-  after_guarded d w c s =
+  after_swallows : (d : ℕ) (w : World) → WasCancelled d w → w.stopped ≡ false → Goes name w (fire_then_swallow d w)
+  unfolding fire_then_swallow
+  after_swallows d w c s =
       unless w (Goes name w) (stays name w) (stops name w) w.stopped _
-      (fire_cases w (λ answer t. Goes name w (guarded d answer t w)) (stops name w) d cancelled _ refl
+      (fire_cases w (λ answer t. Goes name w (fired_then_swallows d answer t w)) (stops name w) d cancelled _ refl
       (λ g. rw g (stays name w)) (λ r x g q. swallow_rests name d w s r x g q)
-      (λ r x g p q. refuse_rests name d w s r x g p) (λ r x g p. guard_rests name d w s c r x g p))
+      (λ r x g p q. refuse_rests name d w s r x g p) (λ r x g p. swallows_rests name d w s c r x g p))
 
   calmly : Calm (Goes name)
   calmly = record {
@@ -255,8 +257,9 @@ module _ (name : List ℕ) where
         (reads.adds d pair r (state_of w) x g) (alike_set d r (with_item (item.Pair pair) r) w.records g refl refl)));
     by_fire = λ d value w.
         live (Goes name w) w (fire d value w).1 (stays name w) (fire_stays d value w) (after_fire d value w);
-    by_fire_guarded = λ d w c.
-        live (Goes name w) w (fire_guarded d w) (stays name w) (fire_guarded_stays d w) (after_guarded d w c);
+    by_fire_then_swallow = λ d w c.
+        live (Goes name w) w (fire_then_swallow d w) (stays name w) (fire_then_swallow_stays d w)
+        (after_swallows d w c);
     by_unpause = λ d w.
         live (Goes name w) w (unpause d w).1 (stays name w) (unpause_stays d w)
         (λ s. unpause_cases w (Goes name w) (stays name w) (stops name w) d

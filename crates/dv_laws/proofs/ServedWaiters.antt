@@ -4,8 +4,8 @@ use Rattle.std.proofs.Common.{Some, refl, sym, ap, subst, ◌∙◌, arith, slic
 use Rattle.std.proofs.lemmas.Bool.{eqb-true}
 use Rattle.dv_journal.specs.declared.entry.Entry.{Entry}
 use Rattle.dv_journal.specs.declared.entry.Entry.TheVariants as entry
-use Rattle.dv_store.specs.Cancelling.{end_of_chain, EndsAt, ChainsEnd, guard}
-use Rattle.dv_store.specs.Fire.{with_firing, with_guard}
+use Rattle.dv_store.specs.Cancelling.{end_of_chain, EndsAt, ChainsEnd, swallow_next}
+use Rattle.dv_store.specs.Fire.{with_firing, with_swallows}
 use Rattle.dv_store.specs.Record.{new_record, changing}
 use Rattle.dv_store.proofs.ChainLaws.{chains_end}
 use Rattle.dv_objects.specs.Pair.{Pair}
@@ -20,7 +20,7 @@ use Rattle.dv_loop.proofs.Kept.{Kind}
 use Rattle.dv_world.specs.World.{Records, reached_from, end_reached, record_reached}
 use Rattle.dv_laws.specs.Served.{IsCancelled}
 use Rattle.dv_laws.specs.ReadBack.{told_by}
-use Rattle.dv_laws.specs.Swallowed.{ComesTo}
+use Rattle.dv_laws.specs.Swallowed.{Reaches}
 use Rattle.dv_laws.proofs.At.{counted_of, at, set_at, set_by, changing_at, changing_by, push_at}
 use Rattle.dv_laws.proofs.Calm.{IsMade, ReachesNoItem}
 use Rattle.dv_laws.proofs.OnceLemmas.{fired_of, marks_of, marked_at}
@@ -147,7 +147,7 @@ same_queue of d j k rs r h =
     same_by _ j k refl (sym (ap (counted_of (item_of j)) r.found
     ∙ ap {B = ℕ} (λ c. cond (is_item j c) 1 0) r.item) ∙ h)
 
--- 2. Whom a cancel comes to, by what was logged.
+-- 2. What a cancel reaches, by what was logged.
 
 pub last_is : (told before : List Entry) (e x : Entry) → told ++ e ∷ [] ≡ before ++ x ∷ [] → (told ≡ before) × (e ≡ x)
 last_is [] [] e x q = (refl, cc)
@@ -166,10 +166,10 @@ pub not_cancelled : (d : ℕ) (told : List Entry) (e : Entry) → ((of : ℕ) �
     → IsCancelled d (told ++ e ∷ []) → ⊥
 not_cancelled d told e n c = n c.of (last_is told c.before e (entry.Cancel c.of) c.last).1
 
--- one that it comes to is reached, if it is unfired
+-- one that it reaches by what was logged is reached, if it is unfired
 module _ (rs : Records) (told : List Entry) (h : (k : ℕ) → told_by k told ≡ shown_at k rs) where
-  comes_ends : (of d : ℕ) → ComesTo of d told → end_of_chain of rs ≡ Some d
-  comes_ends of d c =
+  reaches_ends : (of d : ℕ) → Reaches of d told → end_of_chain of rs ≡ Some d
+  reaches_ends of d c =
       let all : ChainsEnd Pair Canceller = chains_end in
       (all.ends of d rs).1 (record {
         links = c.waits;
@@ -177,8 +177,8 @@ module _ (rs : Records) (told : List Entry) (h : (k : ℕ) → told_by k told �
         free = sym (waited_is rs told h d) ∙ c.free;
       })
 
-  pub ends_comes : (of d : ℕ) → end_of_chain of rs ≡ Some d → ComesTo of d told
-  ends_comes of d e =
+  pub ends_reaches : (of d : ℕ) → end_of_chain of rs ≡ Some d → Reaches of d told
+  ends_reaches of d e =
       let all : ChainsEnd Pair Canceller = chains_end in
       let end : EndsAt rs of d = (all.ends of d rs).0 e in
       record {
@@ -206,11 +206,11 @@ module _ (rs : Records) (told : List Entry) (h : (k : ℕ) → told_by k told �
   fired_found None n k i m = absurd cc
   fired_found (Some r) n k i m = fired_by r.fired n k r.canceller i m
 
-  pub fired_already : (of n k : ℕ) → at (item_of k) n rs ≡ 1 → ComesTo of n told → ReachesNoItem (reached_from of rs)
+  pub fired_already : (of n k : ℕ) → at (item_of k) n rs ≡ 1 → Reaches of n told → ReachesNoItem (reached_from of rs)
       → at fired_of n rs ≡ 1
   fired_already of n k i c m =
       fired_found (slice_get rs n) n k i
-      (subst (λ (o : Option ℕ). ReachesNoItem (end_reached o rs)) (comes_ends of n c) m)
+      (subst (λ (o : Option ℕ). ReachesNoItem (end_reached o rs)) (reaches_ends of n c) m)
 
 -- 3. Changes of records that leave cancellers, and mark no Deferred whose next firing is to be swallowed.
 
@@ -258,10 +258,10 @@ zero_by true x h = refl
 zero_by false x h = h
 
 pub alike_unmarked : (e : ℕ) (r : Kind) (rs : Records) → slice_get rs e ≡ Some r
-    → Alike rs (slice_set rs e (with_guard false r))
+    → Alike rs (slice_set rs e (with_swallows false r))
 alike_unmarked e r rs g = record {
-  items = λ k d i. set_at (item_of k) d e r (with_guard false r) rs g refl ∙ i;
-  fresh = λ k d i m. set_by marks_of d e r (with_guard false r) rs g ∙ zero_by (nat_eq e d) (marked_at d rs) m;
+  items = λ k d i. set_at (item_of k) d e r (with_swallows false r) rs g refl ∙ i;
+  fresh = λ k d i m. set_by marks_of d e r (with_swallows false r) rs g ∙ zero_by (nat_eq e d) (marked_at d rs) m;
 }
 
 -- one that was fired since it was cancelled had no canceller
@@ -271,16 +271,16 @@ other_by true k d e x y rs q i z h =
     absurd (omega (arith, i, z, ap (λ n. at (item_of k) n rs) (eqb-true e d q)))
 other_by false k d e x y rs q i z h = h
 
-pub alike_guard : (e : ℕ) (r : Kind) (rs : Records) → slice_get rs e ≡ Some r
-    → ((k : ℕ) → at (item_of k) e rs ≡ 0) → Alike rs (guard e (slice_set rs e (with_firing cancelled r)))
-alike_guard e r rs g z =
+pub alike_swallows : (e : ℕ) (r : Kind) (rs : Records) → slice_get rs e ≡ Some r
+    → ((k : ℕ) → at (item_of k) e rs ≡ 0) → Alike rs (swallow_next e (slice_set rs e (with_firing cancelled r)))
+alike_swallows e r rs g z =
     let set = slice_set rs e (with_firing cancelled r) in
     record {
       items = λ k d i.
-          changing_at (item_of k) d e (with_guard true) set (λ y. refl)
+          changing_at (item_of k) d e (with_swallows true) set (λ y. refl)
           ∙ set_at (item_of k) d e r (with_firing cancelled r) rs g refl ∙ i;
       fresh = λ k d i m.
-          changing_by marks_of d e (with_guard true) set
+          changing_by marks_of d e (with_swallows true) set
           ∙ other_by (nat_eq e d) k d e _ (at marks_of d set) rs refl i (z k)
           (set_at marks_of d e r (with_firing cancelled r) rs g refl ∙ m);
     }

@@ -32,7 +32,7 @@ use Rattle.dv_laws.proofs.HandOversLemmas.{to_of, owed_in, world_in_turn}
 use Rattle.dv_laws.proofs.OneAtATimeLemmas.{world_used}
 use Rattle.dv_laws.proofs.Idle.{none_runs}
 use Rattle.dv_laws.proofs.ReadBackLemmas.{Reads, ReadsBack, reads, shown_of}
-use Rattle.dv_laws.proofs.ServedWaiters.{ends_comes}
+use Rattle.dv_laws.proofs.ServedWaiters.{ends_reaches}
 use Rattle.dv_laws.proofs.Settles.{running_of, is_itself}
 use Rattle.dv_laws.proofs.Settlings.{some_of, owes_of, all_settled}
 use Rattle.dv_laws.proofs.SwallowedLemmas.{led_is, waited_is}
@@ -208,7 +208,7 @@ module _ (script : Script) (batches : List Batch) (w : World) (m : Means script 
       let hands : at (handovers_of last.waiter) d w.records ≡ 1 =
       (world_waited last.waiter script batches w m).items d
       ∙ awaited_by d (slice_get w.records last.waiter) last.waits in
-      HangsAt d (ends_comes w.records w.journal.entries k n d q)
+      HangsAt d (ends_reaches w.records w.journal.entries k n d q)
       (held_found d last.waiter (slice_get w.records d) refl end.free hands k)
 
 pub waiters_hang : WaitersHang

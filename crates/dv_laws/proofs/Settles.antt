@@ -30,7 +30,7 @@ use Rattle.std.specs.Prelude.{◌&&◌, not, is_none}
 use Rattle.dv_value.specs.declared.value.Value.{Fault}
 use Rattle.std.proofs.lemmas.List.Sums.{sum_by-append, sum_by-cons}
 use Rattle.dv_loop.specs.Beginning.{happening}
-use Rattle.dv_definition.specs.Scripts.{Occurrence, Occurs, Comes}
+use Rattle.dv_definition.specs.Scripts.{Occurrence, Occurs, Posts}
 use Rattle.dv_script.specs.declared.event.Event.TheVariants as event
 use Rattle.dv_script.specs.declared.script.Script.{Script}
 use Rattle.dv_objects.specs.Pair.{side_for}
@@ -150,8 +150,8 @@ same_running = record {
   refuses = λ d r w x g p q. record { same = λ n. refl };
   swallows = λ d r w x g q. record { same = λ n. set_at running_of n d r _ w.records g refl };
   cancels = λ d w x. record { same = λ n. refl };
-  guards = λ d r w x g p c. record {
-    same = λ n. changing_at running_of n d (firing.with_guard true) _ (λ y. refl)
+  sets_swallows = λ d r w x g p c. record {
+    same = λ n. changing_at running_of n d (firing.with_swallows true) _ (λ y. refl)
         ∙ set_at running_of n d r _ w.records g refl;
   };
   fires = λ d value r w x g p. record { same = λ n. set_at running_of n d r _ w.records g refl };
@@ -470,8 +470,8 @@ module _ (R : World → World → Type 0) (k : Settles R) where
       let m = drain_mild w in
       k.calm.quiet.joins w t.2 u (m.comes.keeps R k.calm)
       (gives_keeps t.0 t.1 t.2 h.0 u h.1 (free_stands t.0 t.2 m.free))
-  happens_keeps (Comes posted body) w u h =
-      let t = happening (Comes posted body) w in
+  happens_keeps (Posts posted body) w u h =
+      let t = happening (Posts posted body) w in
       k.calm.quiet.joins w t.2 u ((post_comes posted.caller posted.index w).keeps R k.calm)
       (gives_keeps t.0 t.1 t.2 h.0 u h.1 (free_stands t.0 t.2 (tt, (tt, tt))))
 

@@ -41,7 +41,7 @@ use Rattle.dv_definition.specs.Definition as page
 use Rattle.dv_definition.specs.Rule.{Rule, Ends, By, If, Finds, Then, Asks, Fires, Unpauses, Over, found}
 use Rattle.dv_definition.specs.Rule.{run as run_rule}
 use Rattle.dv_definition.specs.Scripts as scripts
-use Rattle.dv_definition.specs.Scripts.{Occurrence, Occurs, Comes, occurrences}
+use Rattle.dv_definition.specs.Scripts.{Occurrence, Occurs, Posts, occurrences}
 use Rattle.dv_definition.specs.Steps as steps
 use Rattle.dv_definition.specs.Steps.{stepped, Question, Reply}
 use Rattle.dv_loop.specs.Beginning.{happening}
@@ -53,8 +53,9 @@ use Rattle.dv_loop.proofs.Halts.{finishes}
 use Rattle.dv_loop.proofs.Kept.{Both, Kind}
 use Rattle.dv_loop.proofs.Runs.{run, runs_lead}
 use Rattle.dv_world.specs.World as world
-use Rattle.dv_world.specs.World.{World, Records, state_of, with_state, with_stop, append, fire, fired, fire_guarded}
-use Rattle.dv_world.specs.World.{guarded, unpause, unpaused, step, put, put_deferred, first_world, value_of}
+use Rattle.dv_world.specs.World.{World, Records, state_of, with_state, with_stop, append, fire, fired}
+use Rattle.dv_world.specs.World.{fire_then_swallow}
+use Rattle.dv_world.specs.World.{fired_then_swallows, unpause, unpaused, step, put, put_deferred, first_world, value_of}
 use Rattle.dv_laws.proofs.At.{counted_of, at, set_at, changing_at, push_at, set_by, changing_by}
 use Rattle.dv_laws.proofs.Calm.{Quiet, Calmly, IsCalm}
 use Rattle.dv_laws.proofs.Mild.{settled_by, SettlesFirst, CallsToSettle, Follows, Mildly, IsMild}
@@ -196,19 +197,20 @@ append_more n d pair w =
     append_cases w (λ u. owes_at n u ≤ owes_at n w + cond (nat_eq d n) 1 0) (omega arith) (omega arith) d pair
     (λ r x g. more_at n d r (with_item (item.Pair pair) r) w.records g)
 
-guarded_more : (n d : ℕ) (w : World) → owes_at n (fire_guarded d w) ≤ owes_at n w + cond (nat_eq d n) 1 0
-unfolding fire_guarded
-guarded_more n d w =
+swallows_more : (n d : ℕ) (w : World) → owes_at n (fire_then_swallow d w) ≤ owes_at n w + cond (nat_eq d n) 1 0
+unfolding fire_then_swallow
+swallows_more n d w =
     let P : World → Type 0 = λ u. owes_at n u ≤ owes_at n w + cond (nat_eq d n) 1 0 in
     unless w P (omega arith) (omega arith) w.stopped _
-    (fire_cases w (λ answer s. P (guarded d answer s w)) (omega arith) d cancelled _ refl (λ g. rw g (omega arith))
-    (λ r x g q. omega (arith, set_at owes_of n d r (firing.with_guard false r) w.records g refl))
+    (fire_cases w (λ answer s. P (fired_then_swallows d answer s w)) (omega arith) d cancelled _ refl
+    (λ g. rw g (omega arith))
+    (λ r x g q. omega (arith, set_at owes_of n d r (firing.with_swallows false r) w.records g refl))
     (λ r x g p q. omega arith)
     (λ r x g p.
     let set = firing.with_firing cancelled r in
     omega (
       arith,
-      changing_at owes_of n d (firing.with_guard true) (slice_set w.records d set) (λ y. refl),
+      changing_at owes_of n d (firing.with_swallows true) (slice_set w.records d set) (λ y. refl),
       more_at n d r set w.records g,
     )))
 
@@ -232,7 +234,7 @@ module _ (d : ℕ) (w : World) where
       (fire_cases w (λ answer s. PaidNext (fired answer s w)) (record { each = λ n. omega arith }) d value _ refl
       (λ g. record { each = λ n. omega arith })
       (λ r x g q. record {
-        each = λ n. omega (arith, set_at owes_of n d r (firing.with_guard false r) w.records g refl);
+        each = λ n. omega (arith, set_at owes_of n d r (firing.with_swallows false r) w.records g refl);
       }) (λ r x g p q. record { each = λ n. omega arith })
       (λ r x g p. record {
         each = λ n. omega (arith, own_settling n d, more_at n d r (firing.with_firing value r) w.records g);
@@ -319,7 +321,8 @@ step_pays (steps.Name d name) o rule w c f p =
     quiet_pays w (stepped (steps.Name d name) w) (run_rule rule (stepped (steps.Name d name) w)) (name_less d name w) p
 step_pays (steps.Append d pair) o rule w c f p =
     settled_pays d rule w (append d pair w) (λ n. append_more n d pair w) f p
-step_pays (steps.FireGuarded d) o rule w c f p = settled_pays d rule w (fire_guarded d w) (λ n. guarded_more n d w) f p
+step_pays (steps.FireThenSwallow d) o rule w c f p =
+    settled_pays d rule w (fire_then_swallow d w) (λ n. swallows_more n d w) f p
 step_pays (steps.Withdraw k d) o rule w c f p =
     quiet_pays w (world.withdraw k d w) (run_rule rule (world.withdraw k d w)) (withdrawn_less k d w) p
 step_pays step o rule w c f p =
@@ -377,7 +380,7 @@ still_on = record {
   refuses = λ d r w x g p q. record { going = λ h. h };
   swallows = λ d r w x g q. record { going = λ h. h };
   cancels = λ d w x. record { going = λ h. h };
-  guards = λ d r w x g p c. record { going = λ h. h };
+  sets_swallows = λ d r w x g p c. record { going = λ h. h };
   fires = λ d value r w x g p. record { going = λ h. h };
   adds = λ d pair r w x g. record { going = λ h. h };
   pauses = λ d r w x g. record { going = λ h. h };
@@ -723,9 +726,9 @@ happens_begins (Occurs (event.Drain most)) w s =
     let t = happening (Occurs (event.Drain most)) w in
     begun_watched w t s (rule_pays (scripts.happens (Occurs (event.Drain most))) None w (tt, tt, tt))
     (on_calm w t.2 (drain_mild w).comes)
-happens_begins (Comes posted body) w s =
-    let t = happening (Comes posted body) w in
-    begun_watched w t s (rule_pays (scripts.happens (Comes posted body)) None w (tt, tt, (tt, (tt, (tt, tt)))))
+happens_begins (Posts posted body) w s =
+    let t = happening (Posts posted body) w in
+    begun_watched w t s (rule_pays (scripts.happens (Posts posted body)) None w (tt, tt, (tt, (tt, (tt, tt)))))
     (on_calm w t.2 (post_comes posted.caller posted.index w))
 
 runs_watched : (all : List Occurrence) (w u : World) → Runs all w u → Watched [] w → Watched [] u

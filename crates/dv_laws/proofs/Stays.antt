@@ -7,7 +7,7 @@ use Rattle.dv_objects.specs.Objects.{Objects}
 use Rattle.dv_objects.specs.Pair.{Pair}
 use Rattle.dv_objects.specs.declared.canceller.Canceller.{Canceller}
 use Rattle.dv_script.specs.declared.work.Work.{Work}
-use Rattle.dv_world.specs.World.{World, step, put, put_deferred, append, make, fire, fire_guarded, cancel, pause}
+use Rattle.dv_world.specs.World.{World, step, put, put_deferred, append, make, fire, fire_then_swallow, cancel, pause}
 use Rattle.dv_world.specs.World.{unpause, aside, arrange, submit}
 
 kept : (b : Bool) (w u : World) → b ≡ true → cond b w u ≡ w
@@ -44,9 +44,9 @@ pub fire_stays : (d : ℕ) (value : Value) (w : World) → w.stopped ≡ true �
 unfolding fire
 fire_stays d value w h = kept_and w.stopped _ _ w h
 
-pub fire_guarded_stays : (d : ℕ) (w : World) → w.stopped ≡ true → fire_guarded d w ≡ w
-unfolding fire_guarded
-fire_guarded_stays d w h = kept w.stopped w _ h
+pub fire_then_swallow_stays : (d : ℕ) (w : World) → w.stopped ≡ true → fire_then_swallow d w ≡ w
+unfolding fire_then_swallow
+fire_then_swallow_stays d w h = kept w.stopped w _ h
 
 pub cancel_stays : (d : ℕ) (w : World) → w.stopped ≡ true → (cancel d w).1 ≡ w
 unfolding cancel

@@ -258,11 +258,11 @@ module _ (w : World)
 
   again_cases : (d : ℕ) (r : Kind) (b : Bool) → r.swallows ≡ b
       → (fits w.journal (entry.Swallow d) ≡ true → r.swallows ≡ true → P (Ok Swallowed)
-      (telling_of (entry.Swallow d) (slice_set w.records d (firing.with_guard false r)) (state_of w)))
+      (telling_of (entry.Swallow d) (slice_set w.records d (firing.with_swallows false r)) (state_of w)))
       → (fits w.journal (entry.Refuse d) ≡ true → r.swallows ≡ false
       → P (Err (fault.Refused (record {}))) (telling_of (entry.Refuse d) w.records (state_of w)))
       → (let t = cond {A = firing.Firing Pair Canceller} b (firing.telling_firing (entry.Swallow d) (Ok Swallowed)
-      (slice_set w.records d (firing.with_guard false r)) (state_of w))
+      (slice_set w.records d (firing.with_swallows false r)) (state_of w))
       (firing.telling_firing (entry.Refuse d) (Err (fault.Refused (record {}))) w.records (state_of w)) in P t.0 t.1)
   again_cases d r true q h k = firing_cases (fits w.journal (entry.Swallow d)) (Ok Swallowed) _ (λ x. h x q)
   again_cases d r false q h k =
@@ -270,7 +270,7 @@ module _ (w : World)
 
   fired_cases : (d : ℕ) (value : Value) (r : Kind) (b : Bool) → r.fired ≡ b
       → (fits w.journal (entry.Swallow d) ≡ true → r.swallows ≡ true → P (Ok Swallowed)
-      (telling_of (entry.Swallow d) (slice_set w.records d (firing.with_guard false r)) (state_of w)))
+      (telling_of (entry.Swallow d) (slice_set w.records d (firing.with_swallows false r)) (state_of w)))
       → (fits w.journal (entry.Refuse d) ≡ true → r.fired ≡ true → r.swallows ≡ false
       → P (Err (fault.Refused (record {}))) (telling_of (entry.Refuse d) w.records (state_of w)))
       → (fits w.journal (entry.Fire d value) ≡ true → r.fired ≡ false
@@ -283,7 +283,7 @@ module _ (w : World)
   pub fire_cases : (d : ℕ) (value : Value) (o : Option Kind) → slice_get w.records d ≡ o
       → (slice_get w.records d ≡ None → P (Ok Set) (state_of w))
       → ((r : Kind) → fits w.journal (entry.Swallow d) ≡ true → slice_get w.records d ≡ Some r → r.swallows ≡ true → P
-      (Ok Swallowed) (telling_of (entry.Swallow d) (slice_set w.records d (firing.with_guard false r)) (state_of w)))
+      (Ok Swallowed) (telling_of (entry.Swallow d) (slice_set w.records d (firing.with_swallows false r)) (state_of w)))
       → ((r : Kind) → fits w.journal (entry.Refuse d) ≡ true → slice_get w.records d ≡ Some r → r.fired ≡ true
       → r.swallows ≡ false → P (Err (fault.Refused (record {}))) (telling_of (entry.Refuse d) w.records (state_of w)))
       → ((r : Kind) → fits w.journal (entry.Fire d value) ≡ true → slice_get w.records d ≡ Some r → r.fired ≡ false

@@ -7,7 +7,7 @@ use Rattle.dv_journal.specs.Journal.{fits, with_entry}
 use Rattle.dv_journal.specs.Told.{change_of, Aside}
 use Rattle.dv_journal.specs.declared.entry.Entry.{Entry}
 use Rattle.dv_journal.specs.declared.entry.Entry.TheVariants as entry
-use Rattle.dv_store.specs.Cancelling.{guard}
+use Rattle.dv_store.specs.Cancelling.{swallow_next}
 use Rattle.dv_store.specs.Fire as firing
 use Rattle.dv_store.specs.Pausing.{with_pauses}
 use Rattle.dv_store.specs.Record.{with_item, new_record}
@@ -20,7 +20,8 @@ use Rattle.dv_objects.specs.declared.follow.Follow.TheVariants as follow
 use Rattle.dv_prims.specs.Queue.{Queue, may_put, put_to, got_from, receiver, withdrawn}
 use Rattle.dv_script.specs.declared.work.Work.{Work}
 use Rattle.dv_loop.proofs.Kept.{Kind}
-use Rattle.dv_world.specs.World.{World, fired, fire, fire_guarded, guarded, cancel, withdraw, with_stop}
+use Rattle.dv_world.specs.World.{World, fired, fire, fire_then_swallow, fired_then_swallows, cancel, withdraw}
+use Rattle.dv_world.specs.World.{with_stop}
 use Rattle.dv_laws.proofs.Beside.{Beside, Arranged, resting, arranging, SameLocks, SameLoops, QueuePut, QueueGot}
 use Rattle.dv_laws.proofs.Beside.{QueueForgets}
 use Rattle.dv_laws.proofs.Calm.{Regular, WasCancelled, Calm, handed, handed_to, queue_beside}
@@ -59,12 +60,13 @@ pub record Still (R : World → World → Type 0) : Type 0 where
       → r.fired ≡ true → r.swallows ≡ false → R w (telling_in (entry.Refuse d) w.records w)
   pub swallows : (d : ℕ) (r : Kind) (w : World) → fits w.journal (entry.Swallow d) ≡ true
       → slice_get w.records d ≡ Some r → r.swallows ≡ true
-      → R w (telling_in (entry.Swallow d) (slice_set w.records d (firing.with_guard false r)) w)
+      → R w (telling_in (entry.Swallow d) (slice_set w.records d (firing.with_swallows false r)) w)
   pub cancels : (d : ℕ) (w : World) → fits w.journal (entry.Cancel d) ≡ true
       → R w (telling_in (entry.Cancel d) w.records w)
-  pub guards : (d : ℕ) (r : Kind) (w : World) → fits w.journal (entry.Fire d cancelled) ≡ true
+  pub sets_swallows : (d : ℕ) (r : Kind) (w : World) → fits w.journal (entry.Fire d cancelled) ≡ true
       → slice_get w.records d ≡ Some r → r.fired ≡ false → WasCancelled d w
-      → R w (telling_in (entry.Fire d cancelled) (guard d (slice_set w.records d (firing.with_firing cancelled r))) w)
+      → R w
+      (telling_in (entry.Fire d cancelled) (swallow_next d (slice_set w.records d (firing.with_firing cancelled r))) w)
   pub fires : (d : ℕ) (value : Value) (r : Kind) (w : World) → fits w.journal (entry.Fire d value) ≡ true
       → slice_get w.records d ≡ Some r → r.fired ≡ false
       → R w (telling_in (entry.Fire d value) (slice_set w.records d (firing.with_firing value r)) w)
@@ -107,12 +109,14 @@ module _ (R : World → World → Type 0) (k : Still R) where
       (fire_cases w (λ answer s. R w (fired answer s w).1) (k.stops w) d value _ refl (λ g. k.stays w)
       (λ r x g q. k.swallows d r w x g q) (λ r x g p q. k.refuses d r w x g p q) (λ r x g p. k.fires d value r w x g p))
 
-  after_guarded : (d : ℕ) (w : World) → WasCancelled d w → R w (fire_guarded d w)
-  unfolding fire_guarded
-  after_guarded d w c =
+  after_swallows : (d : ℕ) (w : World) → WasCancelled d w → R w (fire_then_swallow d w)
+  unfolding fire_then_swallow
+  after_swallows d w c =
       unless w (R w) (k.stays w) (k.stops w) w.stopped _
-      (fire_cases w (λ answer s. R w (guarded d answer s w)) (k.stops w) d cancelled _ refl (λ g. rw g (k.stays w))
-      (λ r x g q. k.swallows d r w x g q) (λ r x g p q. k.refuses d r w x g p q) (λ r x g p. k.guards d r w x g p c))
+      (fire_cases w (λ answer s. R w (fired_then_swallows d answer s w)) (k.stops w) d cancelled _ refl
+      (λ g. rw g (k.stays w))
+      (λ r x g q. k.swallows d r w x g q) (λ r x g p q. k.refuses d r w x g p q)
+      (λ r x g p. k.sets_swallows d r w x g p c))
 
   -- whoever gets a value is fired with it
   after_handed : (o : Option (ℕ × Value)) (w : World) → R w (handed o w)
@@ -194,6 +198,6 @@ module _ (R : World → World → Type 0) (k : Still R) where
         (λ c. Leaves (refl, refl, refl)) (λ l. l) (resting _ _ _ refl refl refl refl refl refl refl refl refl));
     by_append = λ d pair w. append_cases w (R w) (k.stays w) (k.stops w) d pair (λ r x g. k.adds d pair r w x g);
     by_fire = after_fire;
-    by_fire_guarded = after_guarded;
+    by_fire_then_swallow = after_swallows;
     by_unpause = λ d w. unpause_cases w (R w) (k.stays w) (k.stops w) d (λ r x g p. k.unpauses d r w x g p);
   }

@@ -31,7 +31,7 @@ use Rattle.dv_laws.specs.Swallowed.{waited_for, led_to, IsFiredByACancel, Swallo
 use Rattle.dv_laws.specs.Swallowed.{OnlyACancelHasOneSwallowed}
 use Rattle.dv_laws.proofs.At.{set_at, changing_at, push_at, entries_on, no_entries}
 use Rattle.dv_laws.proofs.Calm.{WasCancelled}
-use Rattle.dv_laws.proofs.OnceLemmas.{marks_of, marked_at, guards_tell, swallows_tell}
+use Rattle.dv_laws.proofs.OnceLemmas.{marks_of, marked_at, sets_swallows_tell, swallows_tell}
 use Rattle.dv_laws.proofs.ReadBackLemmas.{Reads, ReadsBack, reads, shown_of, at as shown_at}
 use Rattle.dv_laws.proofs.Still.{Still, calm}
 use Rattle.dv_laws.proofs.Settles.{Settles, means_keeps, reported}
@@ -100,7 +100,7 @@ fired_so n w c k =
       among =
           ap (λ l. l ++ entry.Fire n cancelled ∷ []) c.last
           ∙ append_assoc c.before (entry.Cancel c.of ∷ []) (entry.Fire n cancelled ∷ []);
-      comes = record {
+      reaches = record {
         waits = end.links;
         leads = led_is w.records c.before reads_before end.links c.of ∙ end.leads;
         free = waited_is w.records c.before reads_before n ∙ end.free;
@@ -116,18 +116,18 @@ fired_on n x entries c = record {
   among =
       ap (λ l. l ++ x ∷ []) c.among
       ∙ append_assoc c.before (entry.Cancel c.of ∷ (entry.Fire n cancelled ∷ c.later)) (x ∷ []);
-  comes = c.comes;
+  reaches = c.reaches;
 }
 
 -- the journal logs what the records show, and one whose next firing is to be swallowed was fired by a cancel
-record Guarded (n : ℕ) (s : Both) : Type 0 where
+record Swallowing (n : ℕ) (s : Both) : Type 0 where
   reads : ReadsBack s
   source : marked_at n s.0 ≡ 1 → IsFiredByACancel n s.1.entries
   law : SwallowsAfterACancel n s.1.entries
 
 -- if it was so before, it is so after
 record Goes (n : ℕ) (s t : Both) : Type 0 where
-  goes_on : Guarded n s → Guarded n t
+  goes_on : Swallowing n s → Swallowing n t
 
 -- one more entry, after which n is to swallow a firing only if it was before or is fired by a cancel
 tells : (n : ℕ) (e : Entry) (s t : Both) → t.1.entries ≡ s.1.entries ++ e ∷ [] → Reads s t
@@ -180,9 +180,9 @@ still n = record {
       (λ k m. ⊎_elim inl (λ q. absurd cc) (t.source m)) (λ z. t.swallowed (sym z));
   cancels =
       λ d w x. plain n (entry.Cancel d) (state_of w) _ refl (reads.cancels d (state_of w) x) refl (λ z. absurd cc);
-  guards = λ d r w x h f c.
-      let t = guards_tell n d r (state_of w) h f in
-      tells n (entry.Fire d cancelled) (state_of w) _ refl (reads.guards d r (state_of w) x h f)
+  sets_swallows = λ d r w x h f c.
+      let t = sets_swallows_tell n d r (state_of w) h f in
+      tells n (entry.Fire d cancelled) (state_of w) _ refl (reads.sets_swallows d r (state_of w) x h f)
       (λ k m. ⊎_elim inl (λ q. inr (subst (λ y. IsFiredByACancel y (w.journal.entries ++ entry.Fire d cancelled ∷ []))
       (fire_is d n q) (fired_so d w c k))) (t.source m)) (λ z. absurd cc);
   fires =

@@ -15,7 +15,7 @@ use Rattle.dv_laws.specs.Times.{Timing, timing_of, Untimed, Advances, Schedules,
 use Rattle.dv_laws.specs.Times.{TimeNeverFalls}
 use Rattle.dv_laws.proofs.At.{split_last, entries_on, no_entries}
 use Rattle.dv_clock.specs.Clock.{Clock}
-use Rattle.dv_clock.specs.Due.{scheduling, coming_due}
+use Rattle.dv_clock.specs.Due.{scheduling, entry_when_due}
 use Rattle.dv_clock.specs.declared.due.Due.{Due}
 use Rattle.dv_clock.specs.declared.due.Due.TheVariants as what
 use Rattle.dv_laws.proofs.Clocks.{IsPlain, Clocks, Leaves, Adds, Runs, Cancels, Moves, Drops, Arranges, Stays, Loses}
@@ -40,7 +40,7 @@ later_told time what.Tick due h = h
 later_told time (what.Delivery job key) due h = h
 later_told time (what.Timeout d) due h = h
 
-run_told : (time : ℕ) (due_for : Due) → IsTold time (timing_of (coming_due due_for))
+run_told : (time : ℕ) (due_for : Due) → IsTold time (timing_of (entry_when_due due_for))
 run_told time (what.Call name key) = tt
 run_told time (what.Turn name key) = tt
 run_told time what.Tick = tt
@@ -173,7 +173,7 @@ still = record {
   refuses = λ d r w x h p q. tells (entry.Refuse d) w _ tt refl refl refl;
   swallows = λ d r w x h p. tells (entry.Swallow d) w _ tt refl refl refl;
   cancels = λ d w x. tells (entry.Cancel d) w _ tt refl refl refl;
-  guards = λ d r w x h f c. tells (entry.Fire d cancelled) w _ tt refl refl refl;
+  sets_swallows = λ d r w x h f c. tells (entry.Fire d cancelled) w _ tt refl refl refl;
   fires = λ d value r w x h f. tells (entry.Fire d value) w _ tt refl refl refl;
   adds = λ d pair r w x h. tells (entry.Add d) w _ tt refl refl refl;
   pauses = λ d r w x h. tells (entry.Pause d) w _ tt refl refl refl;

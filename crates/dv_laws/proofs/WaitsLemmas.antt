@@ -448,15 +448,15 @@ still n = record {
       plain n (entry.Swallow d) _ (state_of w) refl (zero_at odd_of n d r _ w.records h (λ z. z))
       (λ m. set_at (awaits_of m) n d r _ w.records h refl) (λ m. set_at (handovers_of n) m d r _ w.records h refl);
   cancels = λ d w x. plain n (entry.Cancel d) _ (state_of w) refl (λ o. o) (λ m. refl) (λ m. refl);
-  guards = λ d r w x h f c.
+  sets_swallows = λ d r w x h f c.
       let fired = firing.with_firing cancelled r in
       let all = slice_set w.records d fired in
       quiet n (entry.Fire d cancelled) _ (state_of w) (λ m. refl) (λ m. refl)
-      (λ o. zero_changing odd_of n d (firing.with_guard true) all (λ y z. z)
+      (λ o. zero_changing odd_of n d (firing.with_swallows true) all (λ y z. z)
       (zero_at odd_of n d r fired w.records h (fired_even cancelled r) o))
-      (λ m. changing_at (awaits_of m) n d (firing.with_guard true) all (λ y. refl)
+      (λ m. changing_at (awaits_of m) n d (firing.with_swallows true) all (λ y. refl)
       ∙ set_at (awaits_of m) n d r fired w.records h refl)
-      (λ m. changing_at (handovers_of n) m d (firing.with_guard true) all (λ y. refl)
+      (λ m. changing_at (handovers_of n) m d (firing.with_swallows true) all (λ y. refl)
       ∙ set_at (handovers_of n) m d r fired w.records h refl)
       (λ m o a t. apart_by _ n d m r w.records _ refl h (unfired_any r f) o a t);
   fires = λ d value r w x h f.

@@ -11,7 +11,7 @@ use Rattle.dv_script.specs.declared.script.Script.{Script}
 use Rattle.dv_engine.specs.Report.{Reports}
 use Rattle.dv_engine.specs.declared.report.Report.{Report}
 use Rattle.dv_laws.specs.Stored.{Queueing, Unqueued, MakesQueue, PutsInto, GetsFrom, queueing_of, puts_by, gets_by}
-use Rattle.dv_laws.specs.Swallowed.{ComesTo}
+use Rattle.dv_laws.specs.Swallowed.{Reaches}
 
 -- how many queues of a name are made, as is logged
 abbrev pub made_by : List ℕ → Queueing → ℕ
@@ -23,8 +23,8 @@ made_by name (GetsFrom other) = 0
 abbrev pub queues_made : List ℕ → List Entry → ℕ
 queues_made name entries = sum_by (λ e. made_by name (queueing_of e)) entries
 
--- a queue by what was logged: the values that it stores, from the one that was put first; who waits for one, from who
--- asked first; and who was given a value by the last entry, with that value
+-- a queue by what was logged: the values that it stores, from the one that was put first; the waiters for one, from the
+-- one that asked first; and the one that was given a value by the last entry, with that value
 pub record Line : Type 0 where
   pub stored : List Value
   pub waiting : List ℕ
@@ -38,12 +38,12 @@ pub data Firing (d : ℕ) (value : Value) : Entry → Type 0 where
   Fired : Firing d value (entry.Fire d value)
   Refused : Firing d value (entry.Refuse d)
 
--- what was logged last is a cancel that comes to d
+-- what was logged last is a cancel that reaches d
 pub record IsCancelled (d : ℕ) (told : List Entry) : Type 0 where
   pub of : ℕ
   pub before : List Entry
   pub last : told ≡ before ++ entry.Cancel of ∷ []
-  pub comes : ComesTo of d before
+  pub reaches : Reaches of d before
 
 -- an entry is that d, which waits, is fired by that cancel
 pub record IsTakenOut (d : ℕ) (waiting : List ℕ) (told : List Entry) (e : Entry) : Type 0 where
@@ -51,9 +51,9 @@ pub record IsTakenOut (d : ℕ) (waiting : List ℕ) (told : List Entry) (e : En
   pub cancelled_now : IsCancelled d told
   pub fires : e ≡ entry.Fire d cancelled
 
--- what the next entry makes of a queue. A value that is put goes to the first that waits, or is stored, last. Whoever
--- asks is given the value that is stored first, or waits, last. Who is given a value is fired with it by the entry
--- after that. One that waits leaves where a cancel fires it. Any other entry leaves the queue as it is
+-- what the next entry makes of a queue. A value that is put goes to the first waiter, or is stored, last. A Deferred
+-- that asks is given the value that is stored first, or waits, last. One that is given a value is fired with it by the
+-- entry after that. One that waits leaves where a cancel fires it. Any other entry leaves the queue as it is
 pub data Next (name : List ℕ) (told : List Entry) : Line → Entry → Line → Type 0 where
   Gives : (stored : List Value) (d : ℕ) (rest : List ℕ) (value : Value)
       → Next name told (line stored (d ∷ rest) None) (entry.Put name value) (line stored rest (Some (d, value)))
@@ -77,7 +77,7 @@ pub data Leads (name : List ℕ) : List Entry → Line → Type 0 where
   Goes : (told : List Entry) (e : Entry) (before after : Line) → Leads name told before → Next name told before e after
       → Leads name (told ++ e ∷ []) after
 
--- each entry is one that may come next; at the end of a run that hasn't stopped, whoever was given a value was fired
+-- each entry is one that may be next; at the end of a run that hasn't stopped, each that was given a value was fired
 pub record ServesInOrder (name : List ℕ) (entries : List Entry) (stopped : Bool) : Type 0 where
   pub after : Line
   pub leads : Leads name entries after

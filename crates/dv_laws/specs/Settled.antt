@@ -15,7 +15,7 @@ use Rattle.dv_laws.specs.HandOvers.{waiters, receivers}
 use Rattle.dv_laws.specs.OneAtATime.{runs, ends}
 use Rattle.dv_laws.specs.ReadBack.{Shown, told_by}
 use Rattle.dv_laws.specs.Ready.{IsReady}
-use Rattle.dv_laws.specs.Swallowed.{ComesTo, waited_for, led_to}
+use Rattle.dv_laws.specs.Swallowed.{Reaches, waited_for, led_to}
 
 -- whether nothing holds a Deferred back: it is fired, isn't paused, and waits for no other
 abbrev pub may_go_on : Record Pair Canceller → Bool
@@ -52,7 +52,7 @@ pub record IsHeldBack (d : ℕ) (told : List Entry) : Type 0 where
 
 -- by what was logged the waits of n lead to one that is held back and doesn't wait itself, or lead to one a second time
 pub data Hangs (n : ℕ) (told : List Entry) : Type 0 where
-  HangsAt : (d : ℕ) → ComesTo n d told → IsHeldBack d told → Hangs n told
+  HangsAt : (d : ℕ) → Reaches n d told → IsHeldBack d told → Hangs n told
   GoesRound : (first again d : ℕ) → first < again → led_to first n told ≡ Some d → led_to again n told ≡ Some d
       → Hangs n told
 

@@ -18,19 +18,19 @@ abbrev pub led_to : ℕ → ℕ → List Entry → Option ℕ
 led_to zero d told = Some d
 led_to (suc waits) d told = option_and_then (λ e. led_to waits e told) (waited_for d told)
 
--- by what was logged a cancel of d comes to n: waits lead from d to n, or d is n, and n waits for none
-pub record ComesTo (d n : ℕ) (told : List Entry) : Type 0 where
+-- by what was logged a cancel of d reaches n: waits lead from d to n, or d is n, and n waits for none
+pub record Reaches (d n : ℕ) (told : List Entry) : Type 0 where
   pub waits : ℕ
   pub leads : led_to waits d told ≡ Some n
   pub free : waited_for n told ≡ None
 
--- a cancel that comes to n is logged, and directly after it that n is fired with CancelledError and an empty message
+-- a cancel that reaches n is logged, and directly after it that n is fired with CancelledError and an empty message
 pub record IsFiredByACancel (n : ℕ) (told : List Entry) : Type 0 where
   pub of : ℕ
   pub before : List Entry
   pub later : List Entry
   pub among : told ≡ before ++ entry.Cancel of ∷ (entry.Fire n cancelled ∷ later)
-  pub comes : ComesTo of n before
+  pub reaches : Reaches of n before
 
 -- wherever a firing of n is swallowed, a cancel has fired n
 abbrev pub SwallowsAfterACancel : ℕ → List Entry → Type 0

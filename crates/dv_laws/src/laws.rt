@@ -66,8 +66,8 @@ pub fn time_goes_on()
 
 /// At the end of a run that hasn't stopped no side of a Deferred is being run: each that was run
 /// has ended. A Deferred that is fired, isn't paused, and waits for no other has used all its
-/// pairs, and nobody waits for it. Whoever waits hangs at the end of its chain at one that is
-/// unfired or paused, or the chain goes round in a circle.
+/// pairs, and none waits for it. A Deferred that waits hangs at the end of its chain at one that is
+/// unfired or paused, or the chain is a circle.
 pub fn all_that_may_run_has_run()
     ensures ended { EachSideEnds }
     ensures used { AllThatMayRunHasRun }

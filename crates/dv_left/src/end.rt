@@ -89,7 +89,7 @@ pub fn remains_of<'s>(alloc: Global, world: World<'s>) -> Result<Remains, AllocE
     })
 }
 
-/// Who hangs at what else than Deferreds.
+/// The Deferreds that hang at something else than Deferreds.
 #[tactic(auto, using(crate::proofs::RecordsLemmas::hung_both))]
 fn link_rest<'s>(
     links: &mut Links,

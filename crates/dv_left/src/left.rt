@@ -9,7 +9,7 @@ use dv_value::value::Value;
 pub enum Hang {
     /// It waits for the value of this one, which a side of it gave.
     Waits(DeferredId),
-    /// It is a list, and this one is a child of it that hasn't come, at this place.
+    /// It is a list, and this one is a child of it that hasn't fired, at this place.
     Child(DeferredId, u32),
     /// A pair of this one fires it (Twisted: `Deferred.chainDeferred`).
     Chain(DeferredId),
@@ -82,7 +82,7 @@ pub struct LeftTokens {
     pub number: usize,
     pub given: u32,
     pub tokens: u32,
-    /// The Deferreds that wait for one, from who has waited longest.
+    /// The Deferreds that wait for one, from the one that has waited longest.
     pub waiting: Items<DeferredId>,
 }
 
@@ -107,8 +107,8 @@ pub enum Left {
     Task(LeftTask),
     /// A lock of which tokens are given.
     Tokens(LeftTokens),
-    /// The queue of this number, and the Deferreds that wait for a value of it, from who has waited
-    /// longest.
+    /// The queue of this number, and the Deferreds that wait for a value of it, from the one that
+    /// has waited longest.
     Getters(usize, Items<DeferredId>),
     /// The queue of this number, and the values of it that nobody got, from the one that was put
     /// first.

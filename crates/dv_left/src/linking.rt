@@ -1,4 +1,4 @@
-//! Who hangs at what, list by list.
+//! Which Deferreds hang at what, list by list.
 
 ghost use Rattle.std.specs.Prelude.{◌≡◌, [], ◌∷◌, IfOk, OnOk, map};
 ghost use Rattle.std.specs.List.{flat_map};
@@ -47,7 +47,7 @@ impl Links {
         })
     }
 
-    /// Who hangs at a Deferred by what it hasn't used yet.
+    /// The Deferreds that hang at a Deferred by what it hasn't used yet.
     pub fn add_items<'s>(
         &mut self,
         at: DeferredId,
@@ -86,7 +86,7 @@ impl Links {
     {
         match side {
             Side::Fire(id) => self.hang(*id, Hang::Chain(at)),
-            Side::Come(child) => self.hang(child.of, Hang::Child(at, child.place)),
+            Side::Report(child) => self.hang(child.of, Hang::Child(at, child.place)),
             Side::Resume(inline) => self.hang(inline.of, Hang::Await(at)),
             Side::NextTurn(turning) => self.loops.push(turning.number() as usize, at),
             Side::ResumeTask(task) => self.tasks.push(task.number() as usize, at),
@@ -117,7 +117,7 @@ impl Links {
         Ok(())
     }
 
-    /// Who waits for a token.
+    /// The waiters for a token.
     pub fn add_locks(&mut self, locks: &[SemaphoreParts]) -> Result<(), AllocError>
         ensures { OnOk result (self.new
             ≡ with_hung (hung_in_lines hang.Lock 0 (map (λ s. s.waiting) locks.now)) self.old) }
@@ -128,7 +128,7 @@ impl Links {
         Ok(())
     }
 
-    /// Who waits for a value of a queue.
+    /// The waiters for a value of a queue.
     pub fn add_queues(&mut self, queues: &[QueueParts]) -> Result<(), AllocError>
         ensures { OnOk result (self.new
             ≡ with_hung (hung_in_lines hang.Queue 0 (map (λ q. q.waiting) queues.now)) self.old) }
@@ -139,7 +139,8 @@ impl Links {
         Ok(())
     }
 
-    /// Who is to be fired with the result of a job, and who is cancelled by a timer.
+    /// The Deferreds that are to be fired with the result of a job, and those that a timer is to
+    /// cancel.
     pub fn add_calls(&mut self, calls: &[Call]) -> Result<(), AllocError>
         ensures { OnOk result (self.new ≡ with_hung (hung_at_calls calls.now) self.old) }
     {
@@ -165,7 +166,7 @@ impl Links {
         }
     }
 
-    /// Who is fired when a loop ends.
+    /// The Deferred that is fired when a loop ends.
     pub fn add_loops<'s>(&mut self, loops: &[LoopingCall<'s>]) -> Result<(), AllocError>
         ensures { OnOk result (self.new ≡ with_hung (hung_at_loops 0 loops.now) self.old) }
     {
@@ -175,7 +176,7 @@ impl Links {
         Ok(())
     }
 
-    /// Who is fired when a task ends.
+    /// The Deferreds that are fired when a task ends.
     pub fn add_tasks<'s>(&mut self, tasks: &[Task<'s>]) -> Result<(), AllocError>
         ensures { OnOk result (self.new
             ≡ with_hung (hung_in_lines hang.Task 0 (map (λ x. x.waiting) tasks.now)) self.old) }

@@ -20,7 +20,7 @@ use dv_objects::given::Given;
 use dv_objects::pair::{Child, Pair};
 use dv_objects::performed::Performed;
 use dv_objects::refusals::not_gathered;
-use dv_prims::gather::{Came, Flags, seconds};
+use dv_prims::gather::{AfterChild, Flags, seconds};
 use dv_prims::list_id::ListId;
 use dv_script::action::{GatherFlag, ListFlag};
 use dv_script::lent::TextRef;
@@ -93,20 +93,21 @@ fn make<'s>(
 {
     let id = turn.world.next_id();
     let at_once = has_all_at_once(children.as_slice(), flags);
-    begin(turn, id, name, children, flags)?;
+    make_unfired(turn, id, name, children, flags)?;
     fire_at_once(turn, id, at_once)
 }
 
-/// Whether nobody reaches a DeferredList that waits for all.
+/// Whether a DeferredList fires at once: it has no children, and doesn't wait for one that
+/// succeeds.
 fn has_all_at_once(children: &[DeferredId], flags: Flags) -> bool
     ensures { result ≡ page.has_all_at_once children.now flags }
 {
     children.is_empty() && !flags.fire_on_one_callback
 }
 
-/// Makes a DeferredList and its Deferred; the pairs of its children are to be added.
+/// Makes a DeferredList and its Deferred, unfired; the pairs of its children are to be added.
 #[tactic(auto, using(dv_frames::proofs::BoundsLemmas::arranged_within))]
-fn begin<'s>(
+fn make_unfired<'s>(
     turn: &mut Turn<'s>,
     id: DeferredId,
     name: TextRef<'s>,
@@ -126,8 +127,8 @@ fn begin<'s>(
         .make(Some(name), Some(Canceller::Children(children)))
 }
 
-/// A pair is to be added to each child, in order, by which it reaches a DeferredList. AllocError
-/// where there are more than numbers of 32 bits.
+/// A pair is to be added to each child, in order, by which it reports to a DeferredList. AllocError
+/// if there are more than numbers of 32 bits.
 fn add_to_children<'s>(
     stack: &mut Frames<'s>,
     list: ListId,
@@ -145,7 +146,7 @@ fn add_to_children<'s>(
             place: place as u32,
             of,
         };
-        stack.push(Frame::Add(children[place], Pair::coming(child)))?;
+        stack.push(Frame::Add(children[place], Pair::reporting(child)))?;
     }
     Ok(())
 }
@@ -161,13 +162,13 @@ fn fire_at_once<'s>(turn: &mut Turn<'s>, id: DeferredId, at_once: bool) -> Resul
     fire_and_settle(turn, id, Value::List(Items::new(turn.alloc)))
 }
 
-/// A child reaches its DeferredList with its value, which may fire the list; then it goes on with
-/// what the list leaves it.
-pub fn come<'s>(turn: &mut Turn<'s>, child: Child, value: Value) -> Result<(), AllocError>
+/// A child of a DeferredList fired with this value, which may fire the list; then the child goes on
+/// with what the list leaves it (Twisted: `DeferredList._cbDeferred`).
+pub fn child_fired<'s>(turn: &mut Turn<'s>, child: Child, value: Value) -> Result<(), AllocError>
     requires done { turn.old.performed ≡ Done }
     ensures { OnOk result (turn.new ≡ after (page.report child value) turn.old) }
 {
-    let Came { fire, pass } = turn.world.come(child.list, child.place, value)?;
+    let AfterChild { fire, pass } = turn.world.child_fired(child.list, child.place, value)?;
     let give = Frame::Give(Performed::Gave(Given::own(pass)));
     if turn.stack.push(give).is_err() {
         drop(fire);
@@ -176,7 +177,7 @@ pub fn come<'s>(turn: &mut Turn<'s>, child: Child, value: Value) -> Result<(), A
     fire_by_child(turn, child.of, fire)
 }
 
-/// Fires a DeferredList with what is due, unless somebody has fired it.
+/// Fires a DeferredList with what is due, unless it is fired already.
 fn fire_by_child<'s>(
     turn: &mut Turn<'s>,
     id: DeferredId,

@@ -73,17 +73,17 @@ fine = record {
   asides = λ e s a h. told_fine e s.0 s h (weighs_one e) (omega arith);
   refuses = λ d r s h g f. told_fine (entry.Refuse d) s.0 s h (omega arith) (omega arith);
   swallows =
-      λ d r s h g f. let changed = firing.with_guard false r in told_fine (entry.Swallow d) _ s h (omega arith)
+      λ d r s h g f. let changed = firing.with_swallows false r in told_fine (entry.Swallow d) _ s h (omega arith)
       (omega (arith, length-set s.0 d changed, tally_set pauses_in s.0 d r changed g));
   cancels = λ d s h. told_fine (entry.Cancel d) s.0 s h (omega arith) (omega arith);
-  guards = λ d r s h g f.
+  sets_swallows = λ d r s h g f.
       let fired = firing.with_firing cancelled r in
       told_fine (entry.Fire d cancelled) _ s h (omega arith)
       (omega (
         arith,
-        length_changing (slice_set s.0 d fired) d (firing.with_guard true),
+        length_changing (slice_set s.0 d fired) d (firing.with_swallows true),
         length-set s.0 d fired,
-        tally_changing pauses_in 0 (slice_set s.0 d fired) d (firing.with_guard true) (λ x. omega arith),
+        tally_changing pauses_in 0 (slice_set s.0 d fired) d (firing.with_swallows true) (λ x. omega arith),
         tally_set pauses_in s.0 d r fired g,
       ));
   fires =
@@ -156,7 +156,7 @@ stays_bounded = let l = every_step StaysFine fine in record {
   by_append = λ d pair w. bounded w _ (l.by_append d pair w);
   by_make = λ name canceller w. bounded w _ (l.by_make name canceller w);
   by_fire = λ d value w. bounded w _ (l.by_fire d value w);
-  by_fire_guarded = λ d w. bounded w _ (l.by_fire_guarded d w);
+  by_fire_then_swallow = λ d w. bounded w _ (l.by_fire_then_swallow d w);
   by_cancel = λ d w. bounded w _ (l.by_cancel d w);
   by_pause = λ d w. bounded w _ (l.by_pause d w);
   by_unpause = λ d w. bounded w _ (l.by_unpause d w);

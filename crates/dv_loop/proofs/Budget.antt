@@ -68,14 +68,14 @@ kept = record {
   refuses = λ d r s h g f. told_pays (entry.Refuse d) s.0 s h (omega arith) (omega arith);
   swallows =
       λ d r s h g f. told_pays (entry.Swallow d) _ s h (omega arith)
-      (omega (arith, tally_set items_of s.0 d r (firing.with_guard false r) g));
+      (omega (arith, tally_set items_of s.0 d r (firing.with_swallows false r) g));
   cancels = λ d s h. told_pays (entry.Cancel d) s.0 s h (omega arith) (omega arith);
-  guards = λ d r s h g f.
+  sets_swallows = λ d r s h g f.
       let fired = firing.with_firing cancelled r in
       told_pays (entry.Fire d cancelled) _ s h (omega arith)
       (omega (
         arith,
-        tally_changing items_of 0 (slice_set s.0 d fired) d (firing.with_guard true) (λ x. omega arith),
+        tally_changing items_of 0 (slice_set s.0 d fired) d (firing.with_swallows true) (λ x. omega arith),
         tally_set items_of s.0 d r fired g,
       ));
   fires =
@@ -145,7 +145,7 @@ growing = record {
   refuses = λ d r s h g f. told_grows _ _ s;
   swallows = λ d r s h g f. told_grows _ _ s;
   cancels = λ d s h. told_grows _ _ s;
-  guards = λ d r s h g f. told_grows _ _ s;
+  sets_swallows = λ d r s h g f. told_grows _ _ s;
   fires = λ d value r s h g f. told_grows _ _ s;
   adds = λ d pair r s h g. told_grows _ _ s;
   runs = λ d pair r rest s h g e. told_grows _ _ s;

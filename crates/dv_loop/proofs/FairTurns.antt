@@ -13,7 +13,7 @@ use Rattle.dv_loop.proofs.StepsCome.{by_aside}
 use Rattle.dv_loop.specs.Acting.{begun}
 use Rattle.dv_loop.specs.Beginning.{happening}
 use Rattle.dv_definition.specs.Scripts.{Occurrence, Occurs}
-use Rattle.dv_definition.specs.Scripts.{Comes as Posts}
+use Rattle.dv_definition.specs.Scripts.{Posts}
 use Rattle.dv_loop.specs.Turning.{turned}
 use Rattle.dv_definition.specs.Definition.{carry_out}
 use Rattle.dv_script.specs.declared.action.Action.{Action, out-Action}

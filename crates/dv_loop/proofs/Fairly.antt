@@ -2,7 +2,7 @@
 use Rattle.std.proofs.Common.{◌≡◌, ℕ, ◌+◌, ◌<◌, List, arith, ◌≤◌, [], ◌∷◌, Option, None, Some, refl, ap, subst, ◌-◌}
 use Rattle.std.proofs.Common.{Bool, true, false, if◌then◌else◌, ◌++◌, slice_get, length}
 use Rattle.dv_clock.specs.Clock.{Upcoming, next_call}
-use Rattle.dv_clock.specs.Due.{coming_due}
+use Rattle.dv_clock.specs.Due.{entry_when_due}
 use Rattle.dv_clock.specs.Turns.{turn_of}
 use Rattle.dv_clock.specs.declared.call.CallState.TheVariants as call_state
 use Rattle.dv_clock.specs.declared.due.Due.{Due}
@@ -10,10 +10,11 @@ use Rattle.dv_definition.specs.Definition as page
 use Rattle.dv_definition.specs.Definition.{answer_of}
 use Rattle.dv_definition.specs.Rule.{found, Rule, Ends, By, If, Finds, Then, Asks, Fires, Unpauses, Over, run}
 use Rattle.dv_definition.specs.Scripts as scripts
-use Rattle.dv_definition.specs.Steps.{Question, stepped, asked, Cancel, PutInto, GetFrom, CameTo, CancelCall, ResetCall}
+use Rattle.dv_definition.specs.Steps.{Question, stepped, asked, Cancel, PutInto, GetFrom, ChildFired, CancelCall}
+use Rattle.dv_definition.specs.Steps.{ResetCall}
 use Rattle.dv_definition.specs.Steps.{TakeStep, BeginBody}
 use Rattle.dv_definition.specs.Words as words
-use Rattle.dv_definition.specs.Steps.{EndTask, ComeToInline, EndAwait, ComeDue, Moves}
+use Rattle.dv_definition.specs.Steps.{EndTask, ResumeInline, EndAwait, TakeDue, Moves}
 use Rattle.dv_frames.specs.Turn.{Turned, settle_next, ◌over◌}
 use Rattle.dv_frames.specs.declared.frame.Frame.TheVariants as frame
 use Rattle.dv_frames.specs.declared.frame.Frame.{Frame}
@@ -21,9 +22,9 @@ use Rattle.dv_frames.specs.declared.frame.Inlining.TheVariants.{Goes, Acted, Awa
 use Rattle.dv_frames.specs.declared.frame.Inlining.{Inlining}
 use Rattle.dv_frames.specs.declared.frame.Purpose.TheVariants.{Named, Holding, Turning}
 use Rattle.dv_frames.specs.declared.frame.Purpose.{Purpose}
-use Rattle.dv_inline.specs.Position.{Position, come, want_at}
-use Rattle.dv_inline.specs.declared.want.Want.TheVariants.{Do, Await}
-use Rattle.dv_inline.specs.declared.want.Want.{Want}
+use Rattle.dv_inline.specs.Position.{Position, run_to_request, request_at}
+use Rattle.dv_inline.specs.declared.request.Request.TheVariants.{Do, Await}
+use Rattle.dv_inline.specs.declared.request.Request.{Request}
 use Rattle.dv_journal.specs.Told.{change_of, Aside}
 use Rattle.dv_journal.specs.declared.entry.Entry.TheVariants as entry
 use Rattle.dv_journal.specs.declared.entry.Entry.{Entry}
@@ -43,7 +44,7 @@ use Rattle.dv_objects.specs.declared.waiting.Waiting.TheVariants as waits
 use Rattle.dv_objects.specs.declared.waiting.Waiting.{Waiting}
 use Rattle.dv_loop.proofs.Budget.{step_took, cancel_took, aside_took}
 use Rattle.dv_loop.proofs.Fair.{Fair, Falls, can, lighter, paid, pays}
-use Rattle.dv_loop.proofs.InlineSizes.{action_text, answer_text, come_text}
+use Rattle.dv_loop.proofs.InlineSizes.{action_text, answer_text, run_text}
 use Rattle.dv_loop.proofs.Lighter.{IsSame, Known, Light, Lighter, Or, Pays, Within, actions_size, begun_fits, cancel}
 use Rattle.dv_loop.proofs.Lighter.{carry_out, end_task, notify, one_if_some, paid_by, rank, text_of, waiting_by}
 use Rattle.dv_loop.proofs.Lighter.{waiting_text}
@@ -57,14 +58,14 @@ use Rattle.dv_store.specs.declared.store.Step.TheVariants.{Nothing, Passed, Run,
 use Rattle.dv_store.specs.declared.store.Step.{Step as Move}
 use Rattle.dv_value.specs.declared.value.Value.{Value, Null, Fault}
 use Rattle.dv_world.specs.World as world
-use Rattle.dv_world.specs.World.{World, aside, arrange, step_taken, turn_taken, come_due_found, end_await}
+use Rattle.dv_world.specs.World.{World, aside, arrange, step_taken, turn_taken, take_due_found, end_await}
 
 -- 1. A question's answer pays, and is known, as `Lighter` says.
 
 added_same : (e : ℕ) (p : Position) (waiting : Waiting Position) → IsSame p (added e p waiting).0
 added_same e p waits.Nothing = tt
 added_same e p waits.Adding = tt
-added_same e p (waits.Came input) = refl
+added_same e p (waits.Arrived input) = refl
 added_same e p (waits.Awaiting awaited body) = tt
 
 end_same : (i e : ℕ) (p : Position) (o : Option (Waiting Position)) (inlines : Inlines)
@@ -88,14 +89,14 @@ known (BeginBody declared) w = tt
 known (Cancel d) w = tt
 known (PutInto k v) w = tt
 known (GetFrom k d) w = tt
-known (CameTo l i v) w = tt
+known (ChildFired l i v) w = tt
 known (CancelCall number) w = tt
 known (ResetCall number from delay) w = tt
 known TakeStep w = tt
 known (EndTask t end) w = tt
-known (ComeToInline i v) w = tt
+known (ResumeInline i v) w = tt
 known (EndAwait i e p) w = end_await_same i e p w
-known ComeDue w = tt
+known TakeDue w = tt
 known (Moves d) w = tt
 
 unless_pays : {A : Type 0} (a : A) (e : Entry) (change : Objects → Objects) (w : World) (b : Bool) → change_of e ≡ Aside
@@ -112,10 +113,10 @@ turn_pays : (o : Option ℕ) (w : World) → can (turn_taken o w).1 + one_if_som
 turn_pays None w = omega arith
 turn_pays (Some t) w = step_pays t (slice_get w.objects.cooperator.tasks t) w
 
-due_pays : (o : Option Upcoming) (w : World) → can (come_due_found o w).1 + one_if_some (come_due_found o w).0 ≤ can w
+due_pays : (o : Option Upcoming) (w : World) → can (take_due_found o w).1 + one_if_some (take_due_found o w).0 ≤ can w
 due_pays None w = omega arith
 due_pays (Some call) w =
-    unless_pays call.what (coming_due call.what) (with_ended_call call.number call_state.Called) w _
+    unless_pays call.what (entry_when_due call.what) (with_ended_call call.number call_state.Called) w _
     (due_aside call.what) refl
 
 plain_pays : (question : Question) (w : World) → can (asked question w).1 + 0 ≤ can w
@@ -128,14 +129,14 @@ asked_pays (BeginBody declared) w =
 asked_pays (Cancel d) w = cancel_took d w
 asked_pays (PutInto k v) w = plain_pays (PutInto k v) w
 asked_pays (GetFrom k d) w = plain_pays (GetFrom k d) w
-asked_pays (CameTo l i v) w = plain_pays (CameTo l i v) w
+asked_pays (ChildFired l i v) w = plain_pays (ChildFired l i v) w
 asked_pays (CancelCall number) w = plain_pays (CancelCall number) w
 asked_pays (ResetCall number from delay) w = plain_pays (ResetCall number from delay) w
 asked_pays TakeStep w = turn_pays (turn_of w.objects.cooperator.turns) w
 asked_pays (EndTask t end) w = plain_pays (EndTask t end) w
-asked_pays (ComeToInline i v) w = plain_pays (ComeToInline i v) w
+asked_pays (ResumeInline i v) w = plain_pays (ResumeInline i v) w
 asked_pays (EndAwait i e p) w = plain_pays (EndAwait i e p) w
-asked_pays ComeDue w = due_pays (next_call w.objects.clock) w
+asked_pays TakeDue w = due_pays (next_call w.objects.clock) w
 asked_pays (Moves d) w = step_took d w
 
 -- 2. A rule that leaves lighter frames is fair.
@@ -260,18 +261,20 @@ perform_rest itself [] end input =
 perform_rest itself (action ∷ rest) end input =
     (carry_out _ itself (out-Action action) (omega (arith, begun_fits action)), (omega (arith, begun_fits action), tt))
 
-do_wanted : (m : ℕ) (i : Inline) (o : Option Want) (p : Position) → want_at p ≡ o → text_of p < m
-    → Within m (page.do_wanted i o p)
-do_wanted m i None p h q = tt
-do_wanted m i (Some (Do action)) p h q = (
+do_requested : (m : ℕ) (i : Inline) (o : Option Request) (p : Position) → request_at p ≡ o → text_of p < m
+    → Within m (page.do_requested i o p)
+do_requested m i None p h q = tt
+do_requested m i (Some (Do action)) p h q = (
   carry_out m (Some i.of) (out-Action action) (omega (arith, begun_fits action, action_text p action h, q)),
   (omega (arith, q, ap (λ o. waiting_by o p) h), tt),
 )
-do_wanted m i (Some (Await name)) p h q = await m i name p (omega (arith, q, ap (λ o. waiting_by o p) h))
+do_requested m i (Some (Await name)) p h q = await m i name p (omega (arith, q, ap (λ o. waiting_by o p) h))
 
 inline_goes : (x : Inlining) (o : Performed) → Within (rank (frame.Inline x)) (scripts.inline_goes x o)
-inline_goes (Goes i p) o =
-    (do_wanted (1 + text_of p) i (want_at (come p)) (come p) refl (omega (arith, come_text p)), λ result e. omega arith)
+inline_goes (Goes i p) o = (
+  do_requested (1 + text_of p) i (request_at (run_to_request p)) (run_to_request p) refl (omega (arith, run_text p)),
+  λ result e. omega arith,
+)
 inline_goes (Acted i p) o = go_with (waiting_text p) i (answer_of o) p (omega arith)
 inline_goes (Awaited i e p) o = λ a known. Light (go_where i p a known)
 

@@ -1,17 +1,19 @@
 -- How much text of an inline body is left: no move adds to it, and an answer takes from it.
 use Rattle.std.proofs.Common.{◌≡◌, ℕ, ◌+◌, ◌<◌, List, arith, ◌≤◌, [], ◌∷◌, Option, None, Some, refl, ap, subst}
-use Rattle.dv_inline.proofs.Moves.{come_kept}
+use Rattle.dv_inline.proofs.Moves.{run_kept}
 use Rattle.dv_inline.specs.Meaning.{ended, no_active, raised}
-use Rattle.dv_inline.specs.Position.{Position, moved, moved_by, moved_in, moved_unless, outward, come, want_at, want_by}
-use Rattle.dv_inline.specs.Position.{want_in, want_unless, answered, answered_to, went_on, active, ahead, class_caught}
+use Rattle.dv_inline.specs.Position.{Position, moved, moved_by, moved_in, moved_unless, outward, run_to_request}
+use Rattle.dv_inline.specs.Position.{request_at, request_by}
+use Rattle.dv_inline.specs.Position.{request_in, request_unless, answered, answered_to, went_on, active, ahead}
+use Rattle.dv_inline.specs.Position.{class_caught}
 use Rattle.dv_inline.specs.Position.{second_for, into_second, thrown_from, thrown_to, left_from, left_to, caught_from}
 use Rattle.dv_inline.specs.Position.{out_of}
 use Rattle.dv_inline.specs.declared.open.Inside.{Inside}
 use Rattle.dv_inline.specs.declared.open.Inside.TheVariants as inside
 use Rattle.dv_inline.specs.declared.open.Onward.TheVariants as onward
 use Rattle.dv_inline.specs.declared.open.Open.{Open}
-use Rattle.dv_inline.specs.declared.want.Want.TheVariants.{Do, Await}
-use Rattle.dv_inline.specs.declared.want.Want.{Want}
+use Rattle.dv_inline.specs.declared.request.Request.TheVariants.{Do, Await}
+use Rattle.dv_inline.specs.declared.request.Request.{Request}
 use Rattle.dv_loop.proofs.Lighter.{action_size, begun_fits, inside_size, layer_size, opens_size, statement_size}
 use Rattle.dv_loop.proofs.Lighter.{statement_size_out, statements_size, text_by, text_of, waiting_by, waiting_text}
 use Rattle.dv_script.specs.declared.action.Action.TheOpen.{Statement-F}
@@ -123,16 +125,16 @@ by_result (Some result) p n = tt
 move_text : (p q : Position) → moved p ≡ Some q → text_of q ≤ text_of p
 move_text p q h = subst (Adds p) h (by_result p.result p refl)
 
-pub come_text : (p : Position) → text_of (come p) ≤ text_of p
-come_text p = come_kept (λ u. text_of u ≤ text_of p) p (λ u v h k. omega (arith, move_text u v h, k)) (omega arith)
+pub run_text : (p : Position) → text_of (run_to_request p) ≤ text_of p
+run_text p = run_kept (λ u. text_of u ≤ text_of p) p (λ u v h k. omega (arith, move_text u v h, k)) (omega arith)
 
--- the action that is wanted
-abbrev action_in : Option Want → Action → Action
+-- the action that is requested
+abbrev action_in : Option Request → Action → Action
 action_in None other = other
 action_in (Some (Do action)) other = action
 action_in (Some (Await name)) other = other
 
--- an answer takes the statement that wanted it
+-- an answer takes the statement that requested it
 went_text : (o : Option Failure) (v : Value) (s : Statement) (rest : List Statement) (p : Position)
     → p.statements ≡ s ∷ rest → text_of (went_on o v p) ≤ 1 + statements_size rest + opens_size p.opens
 went_text None v s rest p g = rw g (most_text p.result (record p { statements = rest; value = v }))
@@ -140,7 +142,7 @@ went_text (Some failure) v s rest p g = omega (arith, thrown_text failure p.open
 
 answer_layer : (e : Statement-F Action Statement Body) (answer : Value) (s : Statement)
     (rest : List Statement) (p : Position) → statement_size s ≡ layer_size e → p.statements ≡ s ∷ rest → p.result ≡ None
-    → 1 + text_of (answered_to (want_by e) answer p) < waiting_by (want_by e) p
+    → 1 + text_of (answered_to (request_by e) answer p) < waiting_by (request_by e) p
 answer_layer (Statement-F.Do action) answer s rest p h g n =
     omega (
       arith,
@@ -160,42 +162,44 @@ answer_layer Statement-F.Caught answer s rest p h g n = omega arith
 answer_layer (Statement-F.End e) answer s rest p h g n = omega arith
 
 answer_statements : (ss : List Statement) (answer : Value) (p : Position) → p.statements ≡ ss
-    → p.result ≡ None → 1 + text_of (answered_to (want_in ss) answer p) < waiting_by (want_in ss) p
+    → p.result ≡ None → 1 + text_of (answered_to (request_in ss) answer p) < waiting_by (request_in ss) p
 answer_statements [] answer p g n = omega arith
 answer_statements (s ∷ rest) answer p g n =
     answer_layer (out-Statement s) answer s rest p (statement_size_out s) g n
 
 answer_result : (o : Option Value) (answer : Value) (p : Position) → p.result ≡ o
-    → 1 + text_of (answered_to (want_unless o p) answer p) < waiting_by (want_unless o p) p
+    → 1 + text_of (answered_to (request_unless o p) answer p) < waiting_by (request_unless o p) p
 answer_result None answer p n = answer_statements p.statements answer p refl n
 answer_result (Some result) answer p n = omega arith
 
 pub answer_text : (answer : Value) (p : Position) → 1 + text_of (answered answer p) < waiting_text p
 answer_text answer p = answer_result p.result answer p refl
 
--- an action that is wanted is less than what is left
-wants_layer : (e : Statement-F Action Statement Body) (s : Statement) (rest : List Statement) (p : Position)
+-- an action that is requested is less than what is left
+requests_layer : (e : Statement-F Action Statement Body) (s : Statement) (rest : List Statement) (p : Position)
     (action : Action) → statement_size s ≡ layer_size e → p.statements ≡ s ∷ rest → p.result ≡ None
-    → want_by e ≡ Some (Do action) → action_size action < text_of p
-wants_layer (Statement-F.Do wanted) s rest p action h g n w =
-    let same : wanted ≡ action = ap (λ o. action_in o wanted) w in
+    → request_by e ≡ Some (Do action) → action_size action < text_of p
+requests_layer (Statement-F.Do requested) s rest p action h g n w =
+    let same : requested ≡ action = ap (λ o. action_in o requested) w in
     omega (arith, h, ap action_size same, ap statements_size g, ap (λ o. text_by o p) n)
-wants_layer (Statement-F.Await name) s rest p action h g n w = absurd cc
-wants_layer (Statement-F.Try first listed second) s rest p action h g n w = absurd cc
-wants_layer (Statement-F.Finally first second) s rest p action h g n w = absurd cc
-wants_layer Statement-F.Raise s rest p action h g n w = absurd cc
-wants_layer Statement-F.Caught s rest p action h g n w = absurd cc
-wants_layer (Statement-F.End e) s rest p action h g n w = absurd cc
+requests_layer (Statement-F.Await name) s rest p action h g n w = absurd cc
+requests_layer (Statement-F.Try first listed second) s rest p action h g n w = absurd cc
+requests_layer (Statement-F.Finally first second) s rest p action h g n w = absurd cc
+requests_layer Statement-F.Raise s rest p action h g n w = absurd cc
+requests_layer Statement-F.Caught s rest p action h g n w = absurd cc
+requests_layer (Statement-F.End e) s rest p action h g n w = absurd cc
 
-wants_statements : (ss : List Statement) (p : Position) (action : Action) → p.statements ≡ ss → p.result ≡ None
-    → want_in ss ≡ Some (Do action) → action_size action < text_of p
-wants_statements [] p action g n w = absurd cc
-wants_statements (s ∷ rest) p action g n w = wants_layer (out-Statement s) s rest p action (statement_size_out s) g n w
+requests_statements : (ss : List Statement) (p : Position) (action : Action) → p.statements ≡ ss → p.result ≡ None
+    → request_in ss ≡ Some (Do action) → action_size action < text_of p
+requests_statements [] p action g n w = absurd cc
+requests_statements (s ∷ rest) p action g n w =
+    requests_layer (out-Statement s) s rest p action (statement_size_out s) g n w
 
-wants_result : (o : Option Value) (p : Position) (action : Action) → p.result ≡ o → want_unless o p ≡ Some (Do action)
+requests_result : (o : Option Value) (p : Position) (action : Action) → p.result ≡ o
+    → request_unless o p ≡ Some (Do action)
     → action_size action < text_of p
-wants_result None p action n w = wants_statements p.statements p action refl n w
-wants_result (Some result) p action n w = absurd cc
+requests_result None p action n w = requests_statements p.statements p action refl n w
+requests_result (Some result) p action n w = absurd cc
 
-pub action_text : (p : Position) (action : Action) → want_at p ≡ Some (Do action) → action_size action < text_of p
-action_text p action w = wants_result p.result p action refl w
+pub action_text : (p : Position) (action : Action) → request_at p ≡ Some (Do action) → action_size action < text_of p
+action_text p action w = requests_result p.result p action refl w

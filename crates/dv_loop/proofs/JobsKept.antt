@@ -22,7 +22,7 @@ use Rattle.dv_threads.specs.Threading.{GoesOn, job_result}
 use Rattle.dv_definition.specs.Words.{fire_with}
 use Rattle.dv_loop.specs.TurnEnds.{ended_with, ending}
 use Rattle.dv_loop.specs.declared.turn_end.TurnEnd.{TurnEnd}
-use Rattle.dv_loop.specs.declared.turn_end.TurnEnd.TheVariants.{Came, Delivers}
+use Rattle.dv_loop.specs.declared.turn_end.TurnEnd.TheVariants.{Ended, Delivers}
 use Rattle.dv_frames.specs.Turn.{settle_next}
 use Rattle.dv_frames.specs.declared.turn.Turn.{Turn}
 use Rattle.dv_frames.specs.declared.frame.Frame.{Frame}
@@ -30,8 +30,9 @@ use Rattle.dv_objects.specs.Works.{is_full}
 use Rattle.dv_objects.specs.declared.follow.Follow.{Follow}
 use Rattle.dv_objects.specs.declared.follow.Follow.TheVariants as follow
 use Rattle.dv_value.specs.declared.value.Value.{Value}
-use Rattle.dv_world.specs.World.{World, after, moved, named, fired, unpaused, guarded, step, put, put_deferred, append}
-use Rattle.dv_world.specs.World.{make, fire, fire_guarded, cancel, pause, unpause, arrange, submit}
+use Rattle.dv_world.specs.World.{World, after, moved, named, fired, unpaused, fired_then_swallows, step, put}
+use Rattle.dv_world.specs.World.{put_deferred, append}
+use Rattle.dv_world.specs.World.{make, fire, fire_then_swallow, cancel, pause, unpause, arrange, submit}
 use Rattle.dv_objects.specs.declared.canceller.Canceller.{Canceller}
 use Rattle.dv_objects.specs.Pair.{Pair}
 use Rattle.dv_objects.specs.declared.performed.Performed.{Performed}
@@ -89,13 +90,13 @@ fired_same (Err (fault.Refused already)) s w = refl
 fired_same (Err fault.Limit) s w = refl
 fired_same (Err fault.OutOfMemory) s w = refl
 
-guarded_same : (d : ℕ) (r : Result Fired (Fault AlreadyCalled)) (s : State Pair Canceller) (w : World)
-    → (guarded d r s w).works ≡ w.works
-guarded_same d (Ok Set) s w = refl
-guarded_same d (Ok Swallowed) s w = refl
-guarded_same d (Err (fault.Refused already)) s w = refl
-guarded_same d (Err fault.Limit) s w = refl
-guarded_same d (Err fault.OutOfMemory) s w = refl
+swallows_same : (d : ℕ) (r : Result Fired (Fault AlreadyCalled)) (s : State Pair Canceller) (w : World)
+    → (fired_then_swallows d r s w).works ≡ w.works
+swallows_same d (Ok Set) s w = refl
+swallows_same d (Ok Swallowed) s w = refl
+swallows_same d (Err (fault.Refused already)) s w = refl
+swallows_same d (Err fault.Limit) s w = refl
+swallows_same d (Err fault.OutOfMemory) s w = refl
 
 unpaused_same : (r : Result Unit (Fault NotPaused)) (s : State Pair Canceller) (w : World)
     → (unpaused r s w).1.works ≡ w.works
@@ -110,7 +111,7 @@ one_and_same true t u w e f = e
 one_and_same false t u w e f = f
 
 grow : Lasting Grows
-unfolding step put put_deferred append make fire fire_guarded cancel pause unpause arrange submit
+unfolding step put put_deferred append make fire fire_then_swallow cancel pause unpause arrange submit
 grow = record {
   stays = λ w. same w w refl;
   joins = joined;
@@ -120,7 +121,7 @@ grow = record {
   by_append = λ d pair w. unless w.stopped w _ (after_same _ _ w);
   by_make = λ name canceller w. unless w.stopped w _ (named_same name _ _ w);
   by_fire = λ d value w. unless_and w.stopped _ _ w (fired_same _ _ w);
-  by_fire_guarded = λ d w. unless w.stopped w _ (guarded_same d _ _ w);
+  by_fire_then_swallow = λ d w. unless w.stopped w _ (swallows_same d _ _ w);
   by_cancel = λ d w. unless_and w.stopped _ _ w (one_and_same _ _ _ w refl refl);
   by_pause = λ d w. unless w.stopped w _ (after_same _ _ w);
   by_unpause = λ d w. unless_and w.stopped _ _ w (unpaused_same _ _ w);
@@ -153,7 +154,7 @@ delivered_same d (Some value) w =
     ap (λ (u : World). u.works) (settle_same d (fire d value w).0 (fire d value w).1) ∙ fire_same d value w
 
 ended_same : (end : TurnEnd) (p : Performed) (w : World) → (ended_with end p w).2.works ≡ w.works
-ended_same Came p w = refl
+ended_same Ended p w = refl
 ended_same (Delivers job d) p w = delivered_same d (job_result job w.works) w
 
 delivered_works : (d : ℕ) (o : Option Value) (old new : Turn) → new ≡ rule.after (fire_with d o) old

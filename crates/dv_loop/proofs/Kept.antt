@@ -10,7 +10,7 @@ use Rattle.dv_journal.specs.declared.error.Stop.{Stop}
 use Rattle.dv_journal.specs.declared.error.Stop.TheVariants as stop
 use Rattle.dv_store.specs.Callbacks as callbacks
 use Rattle.dv_store.specs.Callbacks.{with_handed, with_result}
-use Rattle.dv_store.specs.Cancelling.{guard}
+use Rattle.dv_store.specs.Cancelling.{swallow_next}
 use Rattle.dv_store.specs.Chaining as chaining
 use Rattle.dv_store.specs.Fire as firing
 use Rattle.dv_store.specs.Pausing as pausing
@@ -40,7 +40,8 @@ use Rattle.dv_objects.specs.Pair.{passes}
 use Rattle.dv_objects.specs.declared.canceller.Canceller.{Canceller}
 use Rattle.dv_objects.specs.Objects.{Objects}
 use Rattle.dv_world.specs.World.{World, Records, state_of, after, moved, named, fired, unpaused, step, put}
-use Rattle.dv_world.specs.World.{put_deferred, append, make, fire, fire_guarded, guarded, cancel, reached_from, pause}
+use Rattle.dv_world.specs.World.{put_deferred, append, make, fire, fire_then_swallow, fired_then_swallows, cancel}
+use Rattle.dv_world.specs.World.{reached_from, pause}
 use Rattle.dv_world.specs.World.{unpause, aside, arrange, submit}
 use Rattle.dv_objects.specs.Refusals.{cancelled}
 use Rattle.dv_objects.specs.declared.follow.Follow.TheVariants as follow
@@ -72,11 +73,12 @@ pub record Kept (R : Both → Both → Type 0) : Type 0 where
   pub refuses : (d : ℕ) (r : Kind) (s : Both) → fits s.1 (entry.Refuse d) ≡ true → slice_get s.0 d ≡ Some r
       → r.fired ≡ true → R s (telling_of (entry.Refuse d) s.0 s)
   pub swallows : (d : ℕ) (r : Kind) (s : Both) → fits s.1 (entry.Swallow d) ≡ true → slice_get s.0 d ≡ Some r
-      → r.swallows ≡ true → R s (telling_of (entry.Swallow d) (slice_set s.0 d (firing.with_guard false r)) s)
+      → r.swallows ≡ true → R s (telling_of (entry.Swallow d) (slice_set s.0 d (firing.with_swallows false r)) s)
   pub cancels : (d : ℕ) (s : Both) → fits s.1 (entry.Cancel d) ≡ true → R s (telling_of (entry.Cancel d) s.0 s)
-  pub guards : (d : ℕ) (r : Kind) (s : Both) → fits s.1 (entry.Fire d cancelled) ≡ true → slice_get s.0 d ≡ Some r
+  pub sets_swallows : (d : ℕ) (r : Kind) (s : Both) → fits s.1 (entry.Fire d cancelled) ≡ true
+      → slice_get s.0 d ≡ Some r
       → r.fired ≡ false
-      → R s (telling_of (entry.Fire d cancelled) (guard d (slice_set s.0 d (firing.with_firing cancelled r))) s)
+      → R s (telling_of (entry.Fire d cancelled) (swallow_next d (slice_set s.0 d (firing.with_firing cancelled r))) s)
   pub fires : (d : ℕ) (value : Value) (r : Kind) (s : Both) → fits s.1 (entry.Fire d value) ≡ true
       → slice_get s.0 d ≡ Some r → r.fired ≡ false
       → R s (telling_of (entry.Fire d value) (slice_set s.0 d (firing.with_firing value r)) s)
@@ -173,7 +175,7 @@ module _ (R : Both → Both → Type 0) (k : Kept R) where
 
   again_keeps : (d : ℕ) (r : Kind) (s : Both) (b : Bool) → r.swallows ≡ b → r.fired ≡ true → slice_get s.0 d ≡ Some r
       → R s (cond {A = firing.Firing Pair Canceller} b
-      (firing.telling_firing (entry.Swallow d) (Ok Swallowed) (slice_set s.0 d (firing.with_guard false r)) s)
+      (firing.telling_firing (entry.Swallow d) (Ok Swallowed) (slice_set s.0 d (firing.with_swallows false r)) s)
       (firing.telling_firing (entry.Refuse d) (Err (fault.Refused (record {}))) s.0 s)).1
   again_keeps d r s true q p g =
       room (fits s.1 (entry.Swallow d)) (Ok Swallowed) (Err fault.Limit) s _ (λ x. k.swallows d r s x g q)
@@ -243,14 +245,14 @@ module _ (R : Both → Both → Type 0) (k : Kept R) where
   world_unpaused_keeps (Err fault.OutOfMemory) s w h = h
 
   -- a firing that a cancel asks for, with the guard
-  guarded_keeps : (d : ℕ) (w : World) (told : firing.Firing Pair Canceller)
-      → (told.0 ≡ Ok Set → R (state_of w) (guard d told.1.0, told.1.1)) → R (state_of w) told.1
-      → Keeps w (guarded d told.0 told.1 w)
-  guarded_keeps d w (Ok Set, s) h g = h refl
-  guarded_keeps d w (Ok Swallowed, s) h g = g
-  guarded_keeps d w (Err (fault.Refused already), s) h g = g
-  guarded_keeps d w (Err fault.Limit, s) h g = g
-  guarded_keeps d w (Err fault.OutOfMemory, s) h g = g
+  swallows_keeps : (d : ℕ) (w : World) (told : firing.Firing Pair Canceller)
+      → (told.0 ≡ Ok Set → R (state_of w) (swallow_next d told.1.0, told.1.1)) → R (state_of w) told.1
+      → Keeps w (fired_then_swallows d told.0 told.1 w)
+  swallows_keeps d w (Ok Set, s) h g = h refl
+  swallows_keeps d w (Ok Swallowed, s) h g = g
+  swallows_keeps d w (Err (fault.Refused already), s) h g = g
+  swallows_keeps d w (Err fault.Limit, s) h g = g
+  swallows_keeps d w (Err fault.OutOfMemory, s) h g = g
 
   -- no firing of a fired Deferred sets its value
   never : (b : Bool) (answer : Result Fired (Fault AlreadyCalled)) (s u : Both) → (answer ≡ Ok Set → ⊥)
@@ -260,7 +262,7 @@ module _ (R : Both → Both → Type 0) (k : Kept R) where
 
   never_again : (d : ℕ) (r : Kind) (s : Both) (b : Bool)
       → (cond {A = firing.Firing Pair Canceller} b
-      (firing.telling_firing (entry.Swallow d) (Ok Swallowed) (slice_set s.0 d (firing.with_guard false r)) s)
+      (firing.telling_firing (entry.Swallow d) (Ok Swallowed) (slice_set s.0 d (firing.with_swallows false r)) s)
       (firing.telling_firing (entry.Refuse d) (Err (fault.Refused (record {}))) s.0 s)).0 ≡ Ok Set → ⊥
   never_again d r s true e = never (fits s.1 (entry.Swallow d)) (Ok Swallowed) s _ (λ h. absurd cc) e
   never_again d r s false e = never (fits s.1 (entry.Refuse d)) (Err (fault.Refused (record {}))) s _ (λ h. absurd cc) e
@@ -272,19 +274,19 @@ module _ (R : Both → Both → Type 0) (k : Kept R) where
         Ok Set,
         (slice_set s.0 d (firing.with_firing cancelled r), with_entry s.1 (entry.Fire d cancelled)),
       ) (Err fault.Limit, s) in
-      t.0 ≡ Ok Set → R s (guard d t.1.0, t.1.1))
-  set_told d r s true x g p h = k.guards d r s x g p
+      t.0 ≡ Ok Set → R s (swallow_next d t.1.0, t.1.1))
+  set_told d r s true x g p h = k.sets_swallows d r s x g p
   set_told d r s false x g p h = absurd cc
 
   set_kept : (d : ℕ) (r : Kind) (s : Both) (b : Bool) → r.fired ≡ b → slice_get s.0 d ≡ Some r
       → (let t = cond {A = firing.Firing Pair Canceller} b (firing.fire_again d r s)
       (firing.telling_firing (entry.Fire d cancelled) (Ok Set) (slice_set s.0 d (firing.with_firing cancelled r)) s) in
-      t.0 ≡ Ok Set → R s (guard d t.1.0, t.1.1))
+      t.0 ≡ Ok Set → R s (swallow_next d t.1.0, t.1.1))
   set_kept d r s true p g h = absurd (never_again d r s r.swallows h)
   set_kept d r s false p g h = set_told d r s _ refl g p h
 
   set_found : (d : ℕ) (o : Option Kind) (s : Both) → slice_get s.0 d ≡ o
-      → (let t = firing.fire_found d cancelled o s in t.0 ≡ Ok Set → R s (guard d t.1.0, t.1.1))
+      → (let t = firing.fire_found d cancelled o s in t.0 ≡ Ok Set → R s (swallow_next d t.1.0, t.1.1))
   set_found d None s g h = rw g (k.stays s)
   set_found d (Some r) s g h = set_kept d r s _ refl g h
 
@@ -372,12 +374,12 @@ module _ (R : Both → Both → Type 0) (k : Kept R) where
       let told = firing.fire d value (state_of w) in unless_and w.stopped follow.Nothing (fired told.0 told.1 w) w
       (world_fired_keeps told.0 told.1 w (fire_keeps d value _ (state_of w) refl))
 
-  by_fire_guarded : (d : ℕ) (w : World) → Keeps w (fire_guarded d w)
-  unfolding fire_guarded
-  by_fire_guarded d w =
+  by_fire_then_swallow : (d : ℕ) (w : World) → Keeps w (fire_then_swallow d w)
+  unfolding fire_then_swallow
+  by_fire_then_swallow d w =
       let told = firing.fire d cancelled (state_of w) in
-      unless w.stopped (guarded d told.0 told.1 w) w
-      (guarded_keeps d w told (set_found d _ (state_of w) refl) (fire_keeps d cancelled _ (state_of w) refl))
+      unless w.stopped (fired_then_swallows d told.0 told.1 w) w
+      (swallows_keeps d w told (set_found d _ (state_of w) refl) (fire_keeps d cancelled _ (state_of w) refl))
 
   by_cancel : (d : ℕ) (w : World) → Keeps w (cancel d w).1
   unfolding cancel
@@ -405,7 +407,7 @@ module _ (R : Both → Both → Type 0) (k : Kept R) where
     by_append = by_append;
     by_make = by_make;
     by_fire = by_fire;
-    by_fire_guarded = by_fire_guarded;
+    by_fire_then_swallow = by_fire_then_swallow;
     by_cancel = by_cancel;
     by_pause = by_pause;
     by_unpause = by_unpause;

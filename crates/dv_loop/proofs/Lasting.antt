@@ -6,7 +6,7 @@ use Rattle.dv_journal.specs.Told.{change_of, Aside}
 use Rattle.dv_script.specs.declared.work.Work.{Work}
 use Rattle.dv_objects.specs.declared.canceller.Canceller.{Canceller}
 use Rattle.dv_objects.specs.Objects.{Objects}
-use Rattle.dv_world.specs.World.{World, step, put, put_deferred, append, make, fire, fire_guarded, cancel, pause}
+use Rattle.dv_world.specs.World.{World, step, put, put_deferred, append, make, fire, fire_then_swallow, cancel, pause}
 use Rattle.dv_world.specs.World.{unpause, aside, arrange, submit}
 use Rattle.dv_objects.specs.Pair.{Pair}
 
@@ -20,7 +20,7 @@ pub record Lasting (R : World → World → Type 0) : Type 0 where
   pub by_append : (d : ℕ) (pair : Pair) (w : World) → R w (append d pair w)
   pub by_make : (name : Option (List ℕ)) (canceller : Option Canceller) (w : World) → R w (make name canceller w)
   pub by_fire : (d : ℕ) (value : Value) (w : World) → R w (fire d value w).1
-  pub by_fire_guarded : (d : ℕ) (w : World) → R w (fire_guarded d w)
+  pub by_fire_then_swallow : (d : ℕ) (w : World) → R w (fire_then_swallow d w)
   pub by_cancel : (d : ℕ) (w : World) → R w (cancel d w).1
   pub by_pause : (d : ℕ) (w : World) → R w (pause d w)
   pub by_unpause : (d : ℕ) (w : World) → R w (unpause d w).1

@@ -3,7 +3,7 @@ use Rattle.std.proofs.Common.{◌≡◌, ℕ, zero, suc, ◌+◌, List, [], ◌�
 use Rattle.dv_definition.proofs.Sayings.{frames_say}
 use Rattle.dv_definition.specs.Definition.{act, cancel, put_in_place, settle, settle_by}
 use Rattle.dv_definition.specs.Rule.{Rule, ◌and_then◌, run, say}
-use Rattle.dv_definition.specs.Scripts.{ComesTo, Occurrence, all_happen, happen, happens, occurrences, within}
+use Rattle.dv_definition.specs.Scripts.{Returns, Occurrence, all_happen, happen, happens, occurrences, within}
 use Rattle.dv_frames.specs.declared.frame.Frame.{Frame}
 use Rattle.dv_frames.specs.declared.frame.Frame.TheVariants as frame
 use Rattle.dv_objects.specs.Pair.{Pair}
@@ -23,10 +23,10 @@ use Rattle.dv_world.specs.World.{World, first_world}
 
 -- a rule says what its frames give
 rule_gives : (rule : Rule) (w : World) (p : Performed) (after : World)
-    → (let t = run rule w in Gives t.0 t.1 t.2 p after) → ComesTo (λ go. say go rule w) (p, after)
+    → (let t = run rule w in Gives t.0 t.1 t.2 p after) → Returns (λ go. say go rule w) (p, after)
 rule_gives rule w p after g = record { depth = g.depth; ends = sym (frames_say (within g.depth) rule w) ∙ g.ends }
 
-gives_rule : (rule : Rule) (w : World) (p : Performed) (after : World) → ComesTo (λ go. say go rule w) (p, after)
+gives_rule : (rule : Rule) (w : World) (p : Performed) (after : World) → Returns (λ go. say go rule w) (p, after)
     → (let t = run rule w in Gives t.0 t.1 t.2 p after)
 gives_rule rule w p after h = record { depth = h.depth; ends = frames_say (within h.depth) rule w ∙ h.ends }
 
@@ -46,7 +46,7 @@ last (Some r) = refl
 -- a frame gives what its rule says one level deeper
 frame_says : (f : Frame) (rule : Rule) (w : World) (p : Performed) (after : World)
     → ((depth : ℕ) → within (suc depth) f Done w ≡ say (within depth) rule w) → Gives (f ∷ []) Done w p after
-    → ComesTo (λ go. say go rule w) (p, after)
+    → Returns (λ go. say go rule w) (p, after)
 frame_says f rule w p after same g =
     record {
       depth = g.depth;
@@ -55,7 +55,7 @@ frame_says f rule w p after same g =
     }
 
 says_frame : (f : Frame) (rule : Rule) (w : World) (p : Performed) (after : World)
-    → ((depth : ℕ) → within (suc depth) f Done w ≡ say (within depth) rule w) → ComesTo (λ go. say go rule w) (p, after)
+    → ((depth : ℕ) → within (suc depth) f Done w ≡ say (within depth) rule w) → Returns (λ go. say go rule w) (p, after)
     → Gives (f ∷ []) Done w p after
 says_frame f rule w p after same h =
     record { depth = suc h.depth; ends = sym (last (within (suc h.depth) f Done w)) ∙ same h.depth ∙ h.ends }
@@ -136,7 +136,7 @@ settling_means d w p after = (
       let is_done =
       one_nothing (within g.depth (frame.Settle d) Done w) ((settles g.depth).settled d Done w) p after g.ends in (
         is_done,
-        subst (λ q. ComesTo (λ go. say go (settle d) w) (q, after)) is_done
+        subst (λ q. Returns (λ go. say go (settle d) w) (q, after)) is_done
             (frame_says (frame.Settle d) (settle d) w p after (settle_same d w) g),
       ),
   λ h. subst (λ q. Gives (frame.Settle d ∷ []) Done w q after) (sym h.0)
@@ -189,7 +189,7 @@ then_ends : (a : Option World) (f : World → Option World) (u r : World) → a 
     → (a and_then f) ≡ Some r
 then_ends a f u r h k = rw h k
 
-runs_lead : (all : List Occurrence) (w after : World) → Runs all w after → ComesTo (λ go. all_happen go all w) after
+runs_lead : (all : List Occurrence) (w after : World) → Runs all w after → Returns (λ go. all_happen go all w) after
 runs_lead [] w after h = record { depth = 0; ends = rw h refl }
 runs_lead (o ∷ rest) w after h =
     let first = (occurrences_mean o w h.0).0 h.1 in
@@ -205,15 +205,15 @@ runs_lead (o ∷ rest) w after h =
     }
 
 -- to one world
-lead_one : (all : List Occurrence) (w u v : World) → ComesTo (λ go. all_happen go all w) u
-    → ComesTo (λ go. all_happen go all w) v → u ≡ v
+lead_one : (all : List Occurrence) (w u v : World) → Returns (λ go. all_happen go all w) u
+    → Returns (λ go. all_happen go all w) v → u ≡ v
 lead_one all w u v h k =
     let a = all_extends h.depth (h.depth + k.depth) (right k.depth h.depth) all w u h.ends in
     let b = all_extends k.depth (h.depth + k.depth) (left h.depth k.depth) all w v k.ends in
     let same : Some u ≡ Some v = sym a ∙ b in
     cc
 
-lead_runs : (all : List Occurrence) (w after : World) → ComesTo (λ go. all_happen go all w) after → Runs all w after
+lead_runs : (all : List Occurrence) (w after : World) → Returns (λ go. all_happen go all w) after → Runs all w after
 lead_runs all w after h =
     let end = runs_end all w in
     subst (λ u. Runs all w u) (lead_one all w end.0 after (runs_lead all w end.0 end.1) h) end.1

@@ -5,19 +5,19 @@ use Rattle.std.specs.Option.{unwrap_or}
 use Rattle.dv_definition.specs.Definition as page
 use Rattle.dv_definition.specs.Flags.{list_flags, gather_flags}
 use Rattle.dv_definition.specs.Rule.{Rule, Ends, By, If, Finds, Then, Asks, Fires, Unpauses, Over}
-use Rattle.dv_definition.specs.Steps.{Question, Reply, Cancel, PutInto, GetFrom, CameTo, CancelCall, ResetCall}
+use Rattle.dv_definition.specs.Steps.{Question, Reply, Cancel, PutInto, GetFrom, ChildFired, CancelCall, ResetCall}
 use Rattle.dv_definition.specs.Steps.{BeginBody, TakeStep, EndTask}
-use Rattle.dv_definition.specs.Steps.{ComeToInline, EndAwait, ComeDue, Moves}
+use Rattle.dv_definition.specs.Steps.{ResumeInline, EndAwait, TakeDue, Moves}
 use Rattle.dv_definition.specs.Words as words
 use Rattle.dv_frames.specs.declared.frame.Frame.TheVariants as frame
 use Rattle.dv_frames.specs.declared.frame.Frame.{Frame}
 use Rattle.dv_frames.specs.declared.frame.Inlining.TheVariants.{Goes, Acted, Awaited}
 use Rattle.dv_frames.specs.declared.frame.Inlining.{Inlining}
-use Rattle.dv_inline.specs.Position.{total, Position, want_at}
+use Rattle.dv_inline.specs.Position.{total, Position, request_at}
 use Rattle.dv_inline.specs.declared.open.Inside.{Inside}
 use Rattle.dv_inline.specs.declared.open.Inside.TheVariants as inside
 use Rattle.dv_inline.specs.declared.open.Open.{Open}
-use Rattle.dv_inline.specs.declared.want.Want.{Want}
+use Rattle.dv_inline.specs.declared.request.Request.{Request}
 use Rattle.dv_objects.specs.declared.reached.Reached.TheVariants as reached
 use Rattle.dv_objects.specs.declared.reached.Reached.{Reached}
 use Rattle.dv_objects.specs.declared.task.TaskEnd.TheVariants.{Stopped}
@@ -153,13 +153,13 @@ text_by (Some result) p = 0
 abbrev pub text_of : Position → ℕ
 text_of p = text_by p.result p
 
--- the same where it waits for an answer; one that wants nothing only takes a turn more
-abbrev pub waiting_by : Option Want → Position → ℕ
+-- the same where it waits for an answer; one that requests nothing only takes a turn more
+abbrev pub waiting_by : Option Request → Position → ℕ
 waiting_by None p = 2 + text_of p
-waiting_by (Some want) p = text_of p
+waiting_by (Some request) p = text_of p
 
 abbrev pub waiting_text : Position → ℕ
-waiting_text p = waiting_by (want_at p) p
+waiting_text p = waiting_by (request_at p) p
 
 -- 2. How much is left of a frame.
 
@@ -205,14 +205,14 @@ paid_by (BeginBody declared) a = one_if_some a
 paid_by (Cancel d) a = reaches a
 paid_by (PutInto k v) a = 0
 paid_by (GetFrom k d) a = 0
-paid_by (CameTo l i v) a = 0
+paid_by (ChildFired l i v) a = 0
 paid_by (CancelCall number) a = 0
 paid_by (ResetCall number from delay) a = 0
 paid_by TakeStep a = one_if_some a
 paid_by (EndTask t end) a = 0
-paid_by (ComeToInline i v) a = 0
+paid_by (ResumeInline i v) a = 0
 paid_by (EndAwait i e p) a = 0
-paid_by ComeDue a = one_if_some a
+paid_by TakeDue a = one_if_some a
 paid_by (Moves d) a = used a
 
 -- the body that goes on after its pair was added is the one that was to await
@@ -225,14 +225,14 @@ Known (BeginBody declared) a = Unit {0}
 Known (Cancel d) a = Unit {0}
 Known (PutInto k v) a = Unit {0}
 Known (GetFrom k d) a = Unit {0}
-Known (CameTo l i v) a = Unit {0}
+Known (ChildFired l i v) a = Unit {0}
 Known (CancelCall number) a = Unit {0}
 Known (ResetCall number from delay) a = Unit {0}
 Known TakeStep a = Unit {0}
 Known (EndTask t end) a = Unit {0}
-Known (ComeToInline i v) a = Unit {0}
+Known (ResumeInline i v) a = Unit {0}
 Known (EndAwait i e p) a = IsSame p a
-Known ComeDue a = Unit {0}
+Known TakeDue a = Unit {0}
 Known (Moves d) a = Unit {0}
 
 -- 4. That a rule leaves lighter frames.

@@ -1,7 +1,7 @@
 -- Every step that rules take leads on by steps of the world: a line a step, written once for all laws.
 use Rattle.std.proofs.Common.{ℕ, ◌≡◌, min, Bool, true, false, if◌then◌else◌, Option, None, Some, slice_get, refl}
 use Rattle.dv_clock.specs.Clock.{Upcoming, next_call, new_due}
-use Rattle.dv_clock.specs.Due.{coming_due}
+use Rattle.dv_clock.specs.Due.{entry_when_due}
 use Rattle.dv_clock.specs.Turns.{turn_of}
 use Rattle.dv_clock.specs.declared.call.Call.{Call}
 use Rattle.dv_clock.specs.declared.call.CallState.{CallState}
@@ -14,29 +14,31 @@ use Rattle.dv_journal.specs.Told.{change_of, Aside}
 use Rattle.dv_journal.specs.declared.entry.Entry.{Entry}
 use Rattle.dv_journal.specs.declared.entry.Entry.TheVariants as entry
 use Rattle.dv_objects.specs.Cooperator.{Cooperator, result_of, unended, wants_tick, idle_tick}
-use Rattle.dv_objects.specs.Inlines.{come_to, end_adding}
+use Rattle.dv_objects.specs.Inlines.{resume_at, end_adding}
 use Rattle.dv_objects.specs.Objects.{Objects, with_queue, with_list, inlining}
 use Rattle.dv_objects.specs.declared.looping_call.LoopingCall.{LoopingCall}
 use Rattle.dv_objects.specs.declared.task.Task.{Task}
 use Rattle.dv_objects.specs.declared.task.TaskEnd.{TaskEnd}
 use Rattle.dv_inline.specs.Position.{Position}
 use Rattle.dv_loop.proofs.Lasting.{Comes}
-use Rattle.dv_prims.specs.DeferredList.{Gather, came}
+use Rattle.dv_prims.specs.DeferredList.{Gather, child_fired}
 use Rattle.dv_prims.specs.Queue.{Queue, may_put, receiver, put_to}
 use Rattle.dv_prims.specs.Tokens.{Semaphore, is_unheld}
-use Rattle.dv_definition.specs.Steps.{Step, stepped, Question, asked, Make, Name, Append, FireGuarded, Pause, Note}
+use Rattle.dv_definition.specs.Steps.{Step, stepped, Question, asked, Make, Name, Append, FireThenSwallow, Pause, Note}
 use Rattle.dv_definition.specs.Steps.{TellTurn, TellUnhandled, NewLock, NewSemaphore, Ask, Release, Forget, NewQueue}
 use Rattle.dv_definition.specs.Steps.{Withdraw, NewList, StartTimer, EndTimer, CallLater, NewLoop, ScheduleTurn}
 use Rattle.dv_definition.specs.Steps.{StopLoop, EndLoop, NewTask, AwaitTask, PauseTask, ResumeTask, HoldTask, KeepTick}
-use Rattle.dv_definition.specs.Steps.{SetUnits, BeginBody, BeginTick, EndTick, AddInline, BeginAwait, Submit, DeliverLater, Advance}
-use Rattle.dv_definition.specs.Steps.{TellDrain, TellPost, Put, PutDeferred, ComeDue, Moves, Cancel, PutInto, GetFrom}
-use Rattle.dv_definition.specs.Steps.{CameTo, CancelCall, ResetCall, TakeStep, EndTask, ComeToInline, EndAwait}
+use Rattle.dv_definition.specs.Steps.{SetUnits, BeginBody, BeginTick, EndTick, AddInline, BeginAwait, Submit}
+use Rattle.dv_definition.specs.Steps.{DeliverLater, Advance}
+use Rattle.dv_definition.specs.Steps.{TellDrain, TellPost, Put, PutDeferred, TakeDue, Moves, Cancel, PutInto, GetFrom}
+use Rattle.dv_definition.specs.Steps.{ChildFired, CancelCall, ResetCall, TakeStep, EndTask, ResumeInline, EndAwait}
 use Rattle.dv_value.specs.declared.value.Value.{Value}
 use Rattle.dv_world.specs.World.{World, aside, lock_told, release_found, unless_stopped, put_into_found, get_from_found}
-use Rattle.dv_world.specs.World.{arrange, came_to_found, came_to, come_due_found, waiting_cancelled, state_cancelled}
+use Rattle.dv_world.specs.World.{arrange, child_fired_found, child_fired_in, take_due_found, waiting_cancelled}
+use Rattle.dv_world.specs.World.{state_cancelled}
 use Rattle.dv_world.specs.World.{call_cancelled, cancel_call, waiting_reset, state_reset, call_reset, reset_call}
 use Rattle.dv_world.specs.World.{turn_scheduled, loop_stopped, task_told, task_ended}
-use Rattle.dv_world.specs.World.{tick_dropped, keep_tick, step_taken, turn_taken, come_to_inline, end_await}
+use Rattle.dv_world.specs.World.{tick_dropped, keep_tick, step_taken, turn_taken, resume_inline, end_await}
 
 pub same : (w : World) → Comes w w
 same w = record { keeps = λ R l. l.stays w }
@@ -65,15 +67,15 @@ release_comes : (l : ℕ) (o : Option Semaphore) (w : World) → Comes w (releas
 release_comes l None w = same w
 release_comes l (Some s) w = one_comes (is_unheld s) w w _ (same w) (by_aside (entry.Release s.name) _ w refl)
 
-came_comes : (l i : ℕ) (v : Value) (o : Option Gather) (w : World) → Comes w (came_to_found l i v o w).1
-came_comes l i v None w = same w
-came_comes l i v (Some g) w = record { keeps = λ R k. k.by_arrange (with_list l (came i v g).1) w }
+child_fired_comes : (l i : ℕ) (v : Value) (o : Option Gather) (w : World) → Comes w (child_fired_found l i v o w).1
+child_fired_comes l i v None w = same w
+child_fired_comes l i v (Some g) w = record { keeps = λ R k. k.by_arrange (with_list l (child_fired i v g).1) w }
 
-came_to_comes : (l i : ℕ) (v : Value) (w : World) → Comes w (came_to l i v w).1
-unfolding came_to
-came_to_comes l i v w =
-    first_comes w.stopped _ (came_to_found l i v (slice_get w.objects.lists l) w) w (same w)
-    (came_comes l i v (slice_get w.objects.lists l) w)
+child_fired_in_comes : (l i : ℕ) (v : Value) (w : World) → Comes w (child_fired_in l i v w).1
+unfolding child_fired_in
+child_fired_in_comes l i v w =
+    first_comes w.stopped _ (child_fired_found l i v (slice_get w.objects.lists l) w) w (same w)
+    (child_fired_comes l i v (slice_get w.objects.lists l) w)
 
 scheduled_comes : (l : ℕ) (o : Option LoopingCall) (w : World) → Comes w (turn_scheduled l o w)
 scheduled_comes l None w = same w
@@ -161,10 +163,10 @@ anew_comes number from delay w =
     first_comes w.stopped _ (call_reset number from delay (slice_get w.objects.clock.calls number) w) w (same w)
     (call_anew number from delay (slice_get w.objects.clock.calls number) w)
 
-inlining_comes : (i : ℕ) (v : Value) (w : World) → Comes w (come_to_inline i v w).1
-unfolding come_to_inline
+inlining_comes : (i : ℕ) (v : Value) (w : World) → Comes w (resume_inline i v w).1
+unfolding resume_inline
 inlining_comes i v w =
-    let t = come_to i v w.objects.inlines in first_comes w.stopped (None, w)
+    let t = resume_at i v w.objects.inlines in first_comes w.stopped (None, w)
     (t.0, arrange (inlining (λ inlines. t.1)) w) w (same w) (record { keeps = λ R k. k.by_arrange _ w })
 
 end_await_comes : (i e : ℕ) (p : Position) (w : World) → Comes w (end_await i e p w).1
@@ -173,7 +175,7 @@ end_await_comes i e p w =
     let t = end_adding i e p w.objects.inlines in first_comes w.stopped (None, w)
     (t.0, arrange (inlining (λ inlines. t.1)) w) w (same w) (record { keeps = λ R k. k.by_arrange _ w })
 
-pub due_aside : (due : Due) → change_of (coming_due due) ≡ Aside
+pub due_aside : (due : Due) → change_of (entry_when_due due) ≡ Aside
 due_aside (what.Call name key) = refl
 due_aside (what.Turn name key) = refl
 due_aside what.Tick = refl
@@ -188,15 +190,15 @@ turn_taken_comes : (o : Option ℕ) (w : World) → Comes w (turn_taken o w).1
 turn_taken_comes None w = same w
 turn_taken_comes (Some t) w = step_taken_comes t (slice_get w.objects.cooperator.tasks t) w
 
-due_comes : (o : Option Upcoming) (w : World) → Comes w (come_due_found o w).1
+due_comes : (o : Option Upcoming) (w : World) → Comes w (take_due_found o w).1
 due_comes None w = same w
-due_comes (Some call) w = by_aside (coming_due call.what) _ w (due_aside call.what)
+due_comes (Some call) w = by_aside (entry_when_due call.what) _ w (due_aside call.what)
 
 pub step_comes : (step : Step) (w : World) → Comes w (stepped step w)
 step_comes (Make name canceller) w = record { keeps = λ R l. l.by_make name canceller w }
 step_comes (Name d name) w = by_aside (entry.Name d (Some name)) _ w refl
 step_comes (Append d pair) w = record { keeps = λ R l. l.by_append d pair w }
-step_comes (FireGuarded d) w = record { keeps = λ R l. l.by_fire_guarded d w }
+step_comes (FireThenSwallow d) w = record { keeps = λ R l. l.by_fire_then_swallow d w }
 step_comes (Pause d) w = record { keeps = λ R l. l.by_pause d w }
 step_comes (Note text) w = by_aside (entry.Note text) _ w refl
 step_comes (TellTurn name) w = by_aside (entry.Turn name) _ w refl
@@ -240,12 +242,12 @@ question_comes (BeginBody declared) w = by_aside (entry.Body declared.name) _ w 
 question_comes (Cancel d) w = record { keeps = λ R l. l.by_cancel d w }
 question_comes (PutInto k v) w = put_comes k v (slice_get w.objects.queues k) w
 question_comes (GetFrom k d) w = get_comes k d (slice_get w.objects.queues k) w
-question_comes (CameTo l i v) w = came_to_comes l i v w
+question_comes (ChildFired l i v) w = child_fired_in_comes l i v w
 question_comes (CancelCall number) w = off_comes number w
 question_comes (ResetCall number from delay) w = anew_comes number from delay w
 question_comes TakeStep w = turn_taken_comes (turn_of w.objects.cooperator.turns) w
 question_comes (EndTask t end) w = task_ended_comes t end (unended (slice_get w.objects.cooperator.tasks t)) w
-question_comes (ComeToInline i v) w = inlining_comes i v w
+question_comes (ResumeInline i v) w = inlining_comes i v w
 question_comes (EndAwait i e p) w = end_await_comes i e p w
-question_comes ComeDue w = due_comes (next_call w.objects.clock) w
+question_comes TakeDue w = due_comes (next_call w.objects.clock) w
 question_comes (Moves d) w = record { keeps = λ R l. l.by_step d w }

@@ -6,7 +6,7 @@ use Rattle.dv_loop.specs.Laws.{StoppedWorldsStay, StoppedActionsStay}
 use Rattle.dv_loop.specs.Meaning.{Gives, Ends, Happens}
 use Rattle.dv_definition.specs.Scripts.{Occurrence}
 use Rattle.dv_frames.specs.declared.frame.Frame.{Frame}
-use Rattle.dv_world.specs.World.{World, step, put, put_deferred, append, make, fire, fire_guarded, cancel, pause}
+use Rattle.dv_world.specs.World.{World, step, put, put_deferred, append, make, fire, fire_then_swallow, cancel, pause}
 use Rattle.dv_world.specs.World.{unpause, aside, arrange, submit}
 use Rattle.dv_objects.specs.declared.performed.Performed.{Performed}
 
@@ -23,7 +23,7 @@ kept_and true x p w h = refl
 kept_and false x p w h = absurd cc
 
 stays : Lasting Stays
-unfolding step put put_deferred append make fire fire_guarded cancel pause unpause aside arrange submit
+unfolding step put put_deferred append make fire fire_then_swallow cancel pause unpause aside arrange submit
 stays = record {
   stays = λ w. record { where_stopped = λ h. refl };
   joins = λ u v w p q. record {
@@ -35,7 +35,7 @@ stays = record {
   by_append = λ d pair w. record { where_stopped = λ h. kept w.stopped w _ h };
   by_make = λ name canceller w. record { where_stopped = λ h. kept w.stopped w _ h };
   by_fire = λ d value w. record { where_stopped = λ h. kept_and w.stopped _ _ w h };
-  by_fire_guarded = λ d w. record { where_stopped = λ h. kept w.stopped w _ h };
+  by_fire_then_swallow = λ d w. record { where_stopped = λ h. kept w.stopped w _ h };
   by_cancel = λ d w. record { where_stopped = λ h. kept_and w.stopped _ _ w h };
   by_pause = λ d w. record { where_stopped = λ h. kept w.stopped w _ h };
   by_unpause = λ d w. record { where_stopped = λ h. kept_and w.stopped _ _ w h };

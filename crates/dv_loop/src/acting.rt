@@ -22,10 +22,10 @@ use dv_threads::inlining::begin_inline;
 use dv_threads::threading::thread;
 use std::alloc::AllocError;
 
-/// Begins an action, and puts on the stack what is to follow. A name that isn't bound raises
-/// NameError, a further firing AlreadyCalledError unless it is swallowed, and an unpausing of what
-/// isn't paused AssertionError; each changes no Deferred.
-pub fn begin<'s>(
+/// Starts an action by its rule, and puts on the stack what is to follow. A name that isn't bound
+/// raises NameError, a further firing AlreadyCalledError unless it is swallowed, and an unpausing
+/// of what isn't paused AssertionError; each changes no Deferred.
+pub fn act<'s>(
     turn: &mut Turn<'s>,
     itself: Option<DeferredId>,
     action: &'s Action,

@@ -3,10 +3,10 @@
 ghost use Rattle.std.specs.Prelude.{◌≡◌, OnOk};
 ghost use Rattle.dv_objects.specs.declared.performed.Performed.TheVariants.{Done};
 ghost use Rattle.dv_definition.specs.Rule.{after};
-ghost use Rattle.dv_definition.specs.Scripts.{Comes, Occurs, happens};
+ghost use Rattle.dv_definition.specs.Scripts.{Posts, Occurs, happens};
 ghost use Rattle.dv_frames.specs.Bounds.{Bounded};
 
-use crate::acting::begin;
+use crate::acting::act;
 use dv_frames::following::whole;
 use dv_frames::frame::Frame;
 use dv_frames::turn::Turn;
@@ -28,7 +28,7 @@ pub fn begin_event<'s>(turn: &mut Turn<'s>, event: &'s Event) -> Result<(), Allo
     match event {
         Event::Action(action) => {
             turn.stack.push(Frame::Tell)?;
-            begin(turn, None, action)
+            act(turn, None, action)
         }
         Event::Advance(ticks) => {
             turn.stack.push(Frame::Due)?;
@@ -46,7 +46,7 @@ pub fn begin_post<'s>(
     body: &'s Body,
 ) -> Result<(), AllocError>
     requires done { turn.old.performed ≡ Done }
-    ensures { OnOk result (turn.new ≡ after (happens (Comes posted.now body.now)) turn.old) }
+    ensures { OnOk result (turn.new ≡ after (happens (Posts posted.now body.now)) turn.old) }
 {
     turn.stack.push(Frame::Tell)?;
     turn.stack.push(Frame::Rest(whole(None, BodyRef::new(body), Input::null())))?;

@@ -5,7 +5,7 @@ ghost use Rattle.dv_clock.specs.declared.due.Due.TheVariants.{Timeout};
 ghost use Rattle.dv_objects.specs.declared.performed.Performed.TheVariants.{Done};
 ghost use Rattle.dv_loop.specs.TurnEnds.{ending};
 
-use crate::turn_end::{TurnEnd, came};
+use crate::turn_end::{TurnEnd, turn_ended};
 use dv_clock::due::Due;
 use dv_clock::loop_id::LoopId;
 use dv_frames::following::whole;
@@ -23,8 +23,8 @@ pub fn run_due(turn: &mut Turn<'_>) -> Result<TurnEnd, AllocError>
     requires done { turn.old.performed ≡ Done }
     ensures { IfOk result (λ end. ending end turn.new ≡ after page.run_due turn.old) }
 {
-    match turn.world.come_due()? {
-        None => Ok(TurnEnd::Came),
+    match turn.world.take_due()? {
+        None => Ok(TurnEnd::Ended),
         Some(what) => run_what(turn, what),
     }
 }
@@ -38,23 +38,23 @@ fn run_what(turn: &mut Turn<'_>, what: Due) -> Result<TurnEnd, AllocError>
     match what {
         Due::Call(name, key) => {
             drop(name);
-            came(run_call(turn, key))
+            turn_ended(run_call(turn, key))
         }
         Due::Turn(name, key) => {
             drop(name);
             turn.stack.push(Frame::Due)?;
-            came(take_turn(turn, LoopId::new(key)))
+            turn_ended(take_turn(turn, LoopId::new(key)))
         }
         Due::Tick => {
             turn.stack.push(Frame::Due)?;
-            came(turn.stack.push(Frame::Tick(turn.world.begin_tick())))
+            turn_ended(turn.stack.push(Frame::Tick(turn.world.begin_tick())))
         }
         Due::Delivery(job, key) => {
             turn.stack.push(Frame::Due)?;
             turn.stack.push(Frame::Tell)?;
             Ok(TurnEnd::Delivers(job, DeferredId::new(key)))
         }
-        Due::Timeout(id) => came(time_out(turn, id)),
+        Due::Timeout(id) => turn_ended(time_out(turn, id)),
     }
 }
 

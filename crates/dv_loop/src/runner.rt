@@ -1,6 +1,6 @@
 ghost use Rattle.std.specs.Prelude.{◌≡◌, [], OnOk};
 ghost use Rattle.dv_definition.specs.Rule.{after};
-ghost use Rattle.dv_definition.specs.Scripts.{Comes, Occurs, rule_of};
+ghost use Rattle.dv_definition.specs.Scripts.{Posts, Occurs, rule_of};
 ghost use Rattle.dv_frames.specs.Bounds.{Bounded};
 ghost use Rattle.dv_objects.specs.declared.performed.Performed.TheVariants.{Done};
 ghost use Rattle.dv_loop.specs.Meaning.{Ends, Happens};
@@ -24,13 +24,13 @@ use std::alloc::{AllocError, AllocGlobal};
 use std::random::RandomSource;
 use std::sync::Wait;
 
-/// Performs an event, with all that follows from it, in one loop over a stack of what is still to
-/// be done, so that what a run nests isn't on the machine's stack. What lies on that stack at first
-/// is dropped, and its room is used again. The jobs that are made are submitted, and where a job's
+/// Runs an event, with all that follows from it, in one loop over a stack of what is still to be
+/// done, so that what a run nests isn't on the machine's stack. What lies on that stack at first is
+/// dropped, and its room is used again. The jobs that are made are submitted, and where a job's
 /// result is due it may wait for that. In a run that has stopped nothing is done, and that is no
 /// error; the only error is out of memory.
 #[tactic(auto, using(crate::proofs::Stopped::happens_stopped, crate::proofs::Turns::happening_bounded, crate::proofs::JobsKept::happening_goes_on))]
-pub fn happen<'s, R, J>(
+pub fn run_event<'s, R, J>(
     rt: &R,
     poller: &Poller,
     jobs: &mut Submissions<'s, J>,
@@ -48,15 +48,15 @@ where
     if turn.world.is_stopped() {
         return Ok(());
     }
-    begin_anew(turn);
+    clear_turn(turn);
     begin_event(turn, event)?;
     jobs.submit_all(turn.alloc, turn.world.works())?;
     run(rt, poller, jobs, turn)
 }
 
-/// Performs a post, with all that follows from it; as `happen`.
+/// Runs a post, with all that follows from it; as `run_event`.
 #[tactic(auto, using(crate::proofs::Stopped::happens_stopped, crate::proofs::Turns::happening_bounded, crate::proofs::JobsKept::happening_goes_on))]
-pub fn come<'s, R, J>(
+pub fn run_post<'s, R, J>(
     rt: &R,
     poller: &Poller,
     jobs: &mut Submissions<'s, J>,
@@ -70,13 +70,13 @@ where
     requires bounded { Bounded turn.old.world }
     requires jobs { jobs.old ≡ turn.old.world.works }
     ensures happens { OnOk result
-        (Happens (Comes posted.now body.now) turn.old.world turn.new.world) }
+        (Happens (Posts posted.now body.now) turn.old.world turn.new.world) }
     ensures jobs { OnOk result (jobs.new ≡ turn.new.world.works) }
 {
     if turn.world.is_stopped() {
         return Ok(());
     }
-    begin_anew(turn);
+    clear_turn(turn);
     begin_post(turn, posted, body)?;
     jobs.submit_all(turn.alloc, turn.world.works())?;
     run(rt, poller, jobs, turn)
@@ -84,7 +84,7 @@ where
 
 /// Drops what is still to be done and what was given. The room of the stack is kept.
 #[inline(always)]
-fn begin_anew(turn: &mut Turn<'_>)
+fn clear_turn(turn: &mut Turn<'_>)
     ensures { turn.new ≡ record turn.old { stack = []; performed = Done } }
 {
     turn.stack.clear();
@@ -157,7 +157,7 @@ where
     ensures jobs { OnOk result (jobs.new ≡ turn.new.world.works) }
 {
     match end {
-        TurnEnd::Came => Ok(()),
+        TurnEnd::Ended => Ok(()),
         TurnEnd::Delivers(job, id) => {
             let value = jobs.outcome(rt, turn.alloc, job)?;
             turn.performed = Performed::Done;

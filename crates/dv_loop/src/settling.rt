@@ -15,7 +15,7 @@ use dv_frames::frame::{Frame, Purpose};
 use dv_frames::maybe::perform_for;
 use dv_frames::turn::Turn;
 use dv_journal::deferred_id::DeferredId;
-use dv_locks::listing::{come, results};
+use dv_locks::listing::{child_fired, results};
 use dv_locks::locking::give_back;
 use dv_objects::given::Given;
 use dv_objects::input::Input;
@@ -49,7 +49,7 @@ pub fn settle<'s>(turn: &mut Turn<'s>, id: DeferredId) -> Result<(), AllocError>
     }
 }
 
-/// Begins a pair on the value of its Deferred; what that gives is to be put in place.
+/// Runs a pair on the value of its Deferred; its result is to be put in place.
 fn run<'s>(turn: &mut Turn<'s>, id: DeferredId, pair: Pair<'s>) -> Result<(), AllocError>
     requires done { turn.old.performed ≡ Done }
     ensures { OnOk result (turn.new ≡ after (page.settle_by id (Run pair.entry)) turn.old) }
@@ -59,7 +59,7 @@ fn run<'s>(turn: &mut Turn<'s>, id: DeferredId, pair: Pair<'s>) -> Result<(), Al
         return Err(AllocError);
     }
     match turn.world.value(id) {
-        Ok(input) => begin_side(turn, id, pair, input),
+        Ok(input) => run_side_for(turn, id, pair, input),
         Err(AllocError) => {
             drop(pair);
             Err(AllocError)
@@ -67,8 +67,8 @@ fn run<'s>(turn: &mut Turn<'s>, id: DeferredId, pair: Pair<'s>) -> Result<(), Al
     }
 }
 
-/// Begins the side of a pair for an input; a missing one gives it on.
-fn begin_side<'s>(
+/// Runs the side of a pair for an input; a missing one passes it on.
+fn run_side_for<'s>(
     turn: &mut Turn<'s>,
     id: DeferredId,
     pair: Pair<'s>,
@@ -83,12 +83,12 @@ fn begin_side<'s>(
             turn.performed = Performed::Gave(Given::own(input));
             Ok(())
         }
-        Some(side) => begin(turn, id, side, input),
+        Some(side) => run_side(turn, id, side, input),
     }
 }
 
-/// Begins a side on an input.
-fn begin<'s>(
+/// Runs a side on an input.
+fn run_side<'s>(
     turn: &mut Turn<'s>,
     id: DeferredId,
     side: Side<'s>,
@@ -112,7 +112,7 @@ fn begin<'s>(
             turn.performed = Performed::Gave(Given::own(input));
             Ok(())
         }
-        Side::Come(child) => come(turn, child, input),
+        Side::Report(child) => child_fired(turn, child, input),
         Side::Results => results(turn, input),
         Side::Hold(lock, body) => {
             drop(input);
@@ -144,6 +144,7 @@ fn perform_side<'s>(
     body: BodyRef<'s>,
     input: Value,
 ) -> Result<(), AllocError>
+    requires done { turn.old.performed ≡ Done }
     ensures { OnOk result
         (turn.new ≡ after (calls (performs (Some id) body.entry input)) turn.old) }
 {
@@ -175,12 +176,12 @@ fn run_if_over<'s>(
 pub fn end_side<'s>(
     turn: &mut Turn<'s>,
     id: DeferredId,
-    came: Performed<'s>,
+    performed: Performed<'s>,
 ) -> Result<(), AllocError>
     requires done { turn.old.performed ≡ Done }
-    ensures { OnOk result (turn.new ≡ after (page.put_in_place id came.entry) turn.old) }
+    ensures { OnOk result (turn.new ≡ after (page.put_in_place id performed.entry) turn.old) }
 {
-    place(turn.alloc, &mut turn.world, id, came)?;
+    place(turn.alloc, &mut turn.world, id, performed)?;
     turn.stack.push(Frame::Settle(id))
 }
 

@@ -9,12 +9,12 @@ ghost use Rattle.dv_definition.specs.Rule.{after};
 ghost use Rattle.dv_definition.specs.Scripts.{rule_of, tell_failure, unless_raised};
 ghost use Rattle.dv_loop.specs.TurnEnds.{ending};
 
-use crate::acting::begin;
+use crate::acting::act;
 use crate::coming_due::run_due;
+use crate::polling;
 use crate::settling::{end_side, settle};
 use crate::taking::{clear, taken};
-use crate::turn_end::{TurnEnd, came};
-use crate::wanting;
+use crate::turn_end::{TurnEnd, turn_ended};
 use dv_clock::task_id::TaskId;
 use dv_defer::cancelling::{cancel, end_canceller};
 use dv_frames::following::{add_and_settle, whole};
@@ -48,39 +48,39 @@ pub fn perform_frame<'s>(
     match frame {
         Frame::Settle(id) => {
             clear(&mut turn.performed);
-            came(settle(turn, id))
+            turn_ended(settle(turn, id))
         }
-        Frame::Place(id) => came(put_in_place(turn, id)),
-        Frame::Rest(rest) => came(go_on_unless_raised(turn, rest)),
-        Frame::Canceller(id) => came(go_on_cancelling(turn, id)),
-        Frame::Maybe(purpose) => came(make_deferred(turn, purpose)),
+        Frame::Place(id) => turn_ended(put_in_place(turn, id)),
+        Frame::Rest(rest) => turn_ended(go_on_unless_raised(turn, rest)),
+        Frame::Canceller(id) => turn_ended(go_on_cancelling(turn, id)),
+        Frame::Maybe(purpose) => turn_ended(make_deferred(turn, purpose)),
         Frame::Add(id, pair) => {
             clear(&mut turn.performed);
-            came(add_and_settle(turn, id, pair))
+            turn_ended(add_and_settle(turn, id, pair))
         }
         Frame::Cancel(id) => {
             clear(&mut turn.performed);
-            came(cancel(turn, id))
+            turn_ended(cancel(turn, id))
         }
         Frame::Give(given) => {
             give_after(turn, given);
-            Ok(TurnEnd::Came)
+            Ok(TurnEnd::Ended)
         }
         Frame::Notify(id, task) => {
             clear(&mut turn.performed);
-            came(notify(turn, id, task))
+            turn_ended(notify(turn, id, task))
         }
-        Frame::Stepped(task) => came(go_on_stepping(turn, task)),
+        Frame::Stepped(task) => turn_ended(go_on_stepping(turn, task)),
         Frame::Tick(units) => {
             clear(&mut turn.performed);
-            came(go_on_ticking(turn, units))
+            turn_ended(go_on_ticking(turn, units))
         }
-        Frame::Tell => came(tell(turn)),
+        Frame::Tell => turn_ended(tell(turn)),
         Frame::Due => {
             clear(&mut turn.performed);
             run_due(turn)
         }
-        Frame::Inline(inlining) => { came(wanting::go_on(poller, turn, inlining)) }
+        Frame::Inline(inlining) => { turn_ended(polling::go_on(poller, turn, inlining)) }
     }
 }
 
@@ -89,8 +89,8 @@ pub fn perform_frame<'s>(
 fn put_in_place<'s>(turn: &mut Turn<'s>, id: DeferredId) -> Result<(), AllocError>
     ensures { OnOk result (turn.new ≡ after (page.put_in_place id turn.old.performed) turn.old) }
 {
-    let came_to = taken(&mut turn.performed);
-    end_side(turn, id, came_to)
+    let performed = taken(&mut turn.performed);
+    end_side(turn, id, performed)
 }
 
 /// Goes on after a canceller.
@@ -98,8 +98,8 @@ fn put_in_place<'s>(turn: &mut Turn<'s>, id: DeferredId) -> Result<(), AllocErro
 fn go_on_cancelling<'s>(turn: &mut Turn<'s>, id: DeferredId) -> Result<(), AllocError>
     ensures { OnOk result (turn.new ≡ after (page.after_canceller id turn.old.performed) turn.old) }
 {
-    let came_to = taken(&mut turn.performed);
-    end_canceller(turn, id, came_to)
+    let performed = taken(&mut turn.performed);
+    end_canceller(turn, id, performed)
 }
 
 /// What a body gave becomes a Deferred.
@@ -109,8 +109,8 @@ fn make_deferred<'s>(turn: &mut Turn<'s>, purpose: Purpose<'s>) -> Result<(), Al
     ensures { OnOk result
         (turn.new ≡ after (page.deferred_of purpose.entry turn.old.performed) turn.old) }
 {
-    let came_to = taken(&mut turn.performed);
-    end_maybe(turn, purpose, came_to)
+    let performed = taken(&mut turn.performed);
+    end_maybe(turn, purpose, performed)
 }
 
 /// Goes on after a body of a task.
@@ -118,17 +118,17 @@ fn make_deferred<'s>(turn: &mut Turn<'s>, purpose: Purpose<'s>) -> Result<(), Al
 fn go_on_stepping<'s>(turn: &mut Turn<'s>, task: TaskId) -> Result<(), AllocError>
     ensures { OnOk result (turn.new ≡ after (page.step_ended task turn.old.performed) turn.old) }
 {
-    let came_to = taken(&mut turn.performed);
-    end_step(turn, task, came_to)
+    let performed = taken(&mut turn.performed);
+    end_step(turn, task, performed)
 }
 
-/// Tells of a failure that nothing has caught.
+/// Logs a failure that nothing catches.
 #[inline(never)]
 fn tell<'s>(turn: &mut Turn<'s>) -> Result<(), AllocError>
     ensures { OnOk result (turn.new ≡ after (tell_failure turn.old.performed) turn.old) }
 {
-    let came_to = taken(&mut turn.performed);
-    tell_failure(turn, came_to)
+    let performed = taken(&mut turn.performed);
+    tell_failure(turn, performed)
 }
 
 /// Goes on with a body, unless what it performed last raised.
@@ -150,7 +150,7 @@ fn go_on_unless_raised<'s>(turn: &mut Turn<'s>, rest: Rest<'s>) -> Result<(), Al
     }
 }
 
-/// Begins the next action of a body, or ends it.
+/// Starts the next action of a body, or ends it.
 fn go_on<'s>(turn: &mut Turn<'s>, rest: Rest<'s>) -> Result<(), AllocError>
     requires bounded { Bounded turn.old.world }
     requires done { turn.old.performed ≡ Done }
@@ -173,7 +173,7 @@ fn go_on<'s>(turn: &mut Turn<'s>, rest: Rest<'s>) -> Result<(), AllocError>
                 end,
                 input,
             }))?;
-            begin(turn, *bound, action)
+            act(turn, *bound, action)
         }
     }
 }

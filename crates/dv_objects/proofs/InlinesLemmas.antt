@@ -7,24 +7,25 @@ use Rattle.std.specs.Option.{option_map}
 use Rattle.dv_inline.specs.Parked.{Bodies, body_under, Changes}
 use Rattle.dv_inline.specs.Position.{Position}
 use Rattle.dv_value.specs.declared.value.Value.{Value}
-use Rattle.dv_objects.specs.Inlines.{Inlines, GoneOn, gone_on, come_at, come_to, end_adding_at, end_adding, awaited_by}
+use Rattle.dv_objects.specs.Inlines.{Inlines, GoneOn, gone_on, resume_found, resume_at, end_adding_at, end_adding}
+use Rattle.dv_objects.specs.Inlines.{awaited_by}
 use Rattle.dv_objects.specs.Inlines.{awaiting, seen, seen_all, IsOther, Lacks, IsApart, IsKept}
-use Rattle.dv_objects.specs.Waiting.{body_of, come, taken, is_adding, added, awaited_of}
+use Rattle.dv_objects.specs.Waiting.{body_of, resume, taken, is_adding, added, awaited_of}
 use Rattle.dv_objects.specs.declared.waiting.Waiting.{Waiting}
-use Rattle.dv_objects.specs.declared.waiting.Waiting.TheVariants.{Nothing, Adding, Came, Awaiting}
+use Rattle.dv_objects.specs.declared.waiting.Waiting.TheVariants.{Nothing, Adding, Arrived, Awaiting}
 
 -- it has no key
 abbrev pub IsKeyless : Waiting ℕ → Type 0
 IsKeyless Nothing = Unit
 IsKeyless Adding = Unit
-IsKeyless (Came input) = Unit
+IsKeyless (Arrived input) = Unit
 IsKeyless (Awaiting awaited key) = ⊥
 
 -- it has no key, or this one, under which a body is parked
 abbrev pub IsOnly : Bodies → ℕ → Waiting ℕ → Type 0
 IsOnly bodies key Nothing = Unit
 IsOnly bodies key Adding = Unit
-IsOnly bodies key (Came input) = Unit
+IsOnly bodies key (Arrived input) = Unit
 IsOnly bodies key (Awaiting awaited other) = (other ≡ key) × IsSome (body_under bodies other)
 
 -- none has this key but the one at a place
@@ -46,7 +47,7 @@ apart_more : (bodies : Bodies) (kept : List (Waiting ℕ)) (w : Waiting ℕ) →
     → IsApart bodies (kept ++ Nothing ∷ []) w
 apart_more bodies kept Nothing h = tt
 apart_more bodies kept Adding h = tt
-apart_more bodies kept (Came input) h = tt
+apart_more bodies kept (Arrived input) h = tt
 apart_more bodies kept (Awaiting awaited key) h = (h.0, lacks_more key kept h.1)
 
 pub kept_more : (bodies : Bodies) (kept : List (Waiting ℕ)) → IsKept bodies kept → IsKept bodies (kept ++ Nothing ∷ [])
@@ -61,13 +62,13 @@ seen_more bodies kept = map-append (seen bodies) kept (Nothing ∷ [])
 other_keyless : (key : ℕ) (w : Waiting ℕ) → IsKeyless w → IsOther key w
 other_keyless key Nothing h = tt
 other_keyless key Adding h = tt
-other_keyless key (Came input) h = tt
+other_keyless key (Arrived input) h = tt
 other_keyless key (Awaiting awaited other) h = absurd h
 
 apart_keyless : (bodies : Bodies) (kept : List (Waiting ℕ)) (w : Waiting ℕ) → IsKeyless w → IsApart bodies kept w
 apart_keyless bodies kept Nothing h = tt
 apart_keyless bodies kept Adding h = tt
-apart_keyless bodies kept (Came input) h = tt
+apart_keyless bodies kept (Arrived input) h = tt
 apart_keyless bodies kept (Awaiting awaited other) h = absurd h
 
 lacks_set : (key : ℕ) (kept : List (Waiting ℕ)) (place : ℕ) (w : Waiting ℕ) → IsOther key w → Lacks key kept
@@ -80,7 +81,7 @@ apart_put : (bodies : Bodies) (kept : List (Waiting ℕ)) (place : ℕ) (w x : W
     → IsApart bodies kept x → IsApart bodies (slice_set kept place w) x
 apart_put bodies kept place w Nothing k h = tt
 apart_put bodies kept place w Adding k h = tt
-apart_put bodies kept place w (Came input) k h = tt
+apart_put bodies kept place w (Arrived input) k h = tt
 apart_put bodies kept place w (Awaiting awaited key) k h = (h.0, lacks_set key kept place w (other_keyless key w k) h.1)
 
 pub kept_put : (bodies : Bodies) (kept : List (Waiting ℕ)) (place : ℕ) (w : Waiting ℕ) → IsKeyless w
@@ -100,7 +101,7 @@ seen_put bodies (x ∷ kept) (suc place) w = ap (λ (xs : Inlines). seen bodies 
 seen_other : (old new : Bodies) (key : ℕ) (w : Waiting ℕ) → Stay old new key → IsOther key w → seen new w ≡ seen old w
 seen_other old new key Nothing f h = refl
 seen_other old new key Adding f h = refl
-seen_other old new key (Came input) f h = refl
+seen_other old new key (Arrived input) f h = refl
 seen_other old new key (Awaiting awaited other) f h = ap (awaiting awaited) (f other h)
 
 seen_cons : (x y : Waiting Position) (xs ys : Inlines) → x ≡ y → xs ≡ ys → x ∷ xs ≡ y ∷ ys
@@ -128,7 +129,7 @@ apart_lacking : (old new : Bodies) (key : ℕ) (kept : List (Waiting ℕ)) (w : 
     → IsOther key w → IsApart old kept w → IsApart new kept w
 apart_lacking old new key kept Nothing f o h = tt
 apart_lacking old new key kept Adding f o h = tt
-apart_lacking old new key kept (Came input) f o h = tt
+apart_lacking old new key kept (Arrived input) f o h = tt
 apart_lacking old new key kept (Awaiting awaited other) f o h = (some_stays _ _ (f other o) h.0, h.1)
 
 kept_lacking : (old new : Bodies) (key : ℕ) (kept : List (Waiting ℕ)) → Stay old new key → Lacks key kept
@@ -140,21 +141,21 @@ kept_lacking old new key (w ∷ kept) f l h =
 other_only : (bodies : Bodies) (other key : ℕ) (w : Waiting ℕ) → other ≢ key → IsOnly bodies key w → IsOther other w
 other_only bodies other key Nothing ne o = tt
 other_only bodies other key Adding ne o = tt
-other_only bodies other key (Came input) ne o = tt
+other_only bodies other key (Arrived input) ne o = tt
 other_only bodies other key (Awaiting awaited same) ne o = λ (p : same ≡ other). ne (sym p ∙ o.0)
 
 apart_only : (bodies : Bodies) (key : ℕ) (kept : List (Waiting ℕ)) (w : Waiting ℕ) → Lacks key kept
     → IsOnly bodies key w → IsApart bodies kept w
 apart_only bodies key kept Nothing l o = tt
 apart_only bodies key kept Adding l o = tt
-apart_only bodies key kept (Came input) l o = tt
+apart_only bodies key kept (Arrived input) l o = tt
 apart_only bodies key kept (Awaiting awaited same) l o = (o.1, subst (λ (k : ℕ). Lacks k kept) (sym o.0) l)
 
 apart_set : (old new : Bodies) (key place : ℕ) (kept : List (Waiting ℕ)) (w x : Waiting ℕ) → Stay old new key
     → IsOther key x → IsOnly new key w → IsApart old kept x → IsApart new (slice_set kept place w) x
 apart_set old new key place kept w Nothing f l o h = tt
 apart_set old new key place kept w Adding f l o h = tt
-apart_set old new key place kept w (Came input) f l o h = tt
+apart_set old new key place kept w (Arrived input) f l o h = tt
 apart_set old new key place kept w (Awaiting awaited other) f l o h =
     (some_stays _ _ (f other l) h.0, lacks_set other kept place w (other_only new other key w l o) h.1)
 
@@ -177,7 +178,7 @@ other_vacant : (bodies : Bodies) (key : ℕ) (kept : List (Waiting ℕ)) (w : Wa
     → IsApart bodies kept w → IsOther key w
 other_vacant bodies key kept Nothing v h = tt
 other_vacant bodies key kept Adding v h = tt
-other_vacant bodies key kept (Came input) v h = tt
+other_vacant bodies key kept (Arrived input) v h = tt
 other_vacant bodies key kept (Awaiting awaited other) v h =
     λ (p : other ≡ key). none_some (body_under bodies other) (ap (body_under bodies) p ∙ v) h.0
 
@@ -203,7 +204,7 @@ other_found : (bodies : Bodies) (place awaited key : ℕ) (kept : List (Waiting 
     → IsApart bodies kept w → slice_get kept place ≡ Some (Awaiting awaited key) → IsOther key w
 other_found bodies place awaited key kept Nothing h g = tt
 other_found bodies place awaited key kept Adding h g = tt
-other_found bodies place awaited key kept (Came input) h g = tt
+other_found bodies place awaited key kept (Arrived input) h g = tt
 other_found bodies place awaited key kept (Awaiting earlier other) h g =
     λ (p : other ≡ key). lacks_found other place awaited key kept h.1 g (sym p)
 
@@ -271,7 +272,7 @@ pub record Awaits (w : Waiting ℕ) (key : ℕ) : Type 0 where
 awaits_by : (w : Waiting ℕ) (key : ℕ) → Some key ≡ body_of w → Awaits w key
 awaits_by Nothing key e = absurd cc
 awaits_by Adding key e = absurd cc
-awaits_by (Came input) key e = absurd cc
+awaits_by (Arrived input) key e = absurd cc
 awaits_by (Awaiting awaited other) key e =
     let same : other ≡ key = cc in record { awaited = awaited; is = ap (Awaiting awaited) same }
 
@@ -319,45 +320,45 @@ no_input i e = cc
 keyless_by : (w x : Waiting ℕ) → w ≡ x → IsKeyless x → IsKeyless w
 keyless_by w x e h = subst IsKeyless (sym e) h
 
-pub none_keyless : (input : Value) (w left : Waiting ℕ) → (None, left) ≡ come input w → IsKeyless left
+pub none_keyless : (input : Value) (w left : Waiting ℕ) → (None, left) ≡ resume input w → IsKeyless left
 none_keyless input Nothing left e = keyless_by left Nothing (ap (λ (p : Left). p.1) e) tt
-none_keyless input Adding left e = keyless_by left (Came input) (ap (λ (p : Left). p.1) e) tt
-none_keyless input (Came earlier) left e = keyless_by left (Came earlier) (ap (λ (p : Left). p.1) e) tt
+none_keyless input Adding left e = keyless_by left (Arrived input) (ap (λ (p : Left). p.1) e) tt
+none_keyless input (Arrived earlier) left e = keyless_by left (Arrived earlier) (ap (λ (p : Left). p.1) e) tt
 none_keyless input (Awaiting awaited key) left e = absurd (no_pair (key, input) (sym (ap (λ (p : Left). p.0) e)))
 
-none_comes : (bodies : Bodies) (input : Value) (w left : Waiting ℕ) → (None, left) ≡ come input w
-    → left_none (seen bodies left) ≡ come input (seen bodies w)
-none_comes bodies input Nothing left e = ap (λ (p : Left). left_none (seen bodies p.1)) e
-none_comes bodies input Adding left e = ap (λ (p : Left). left_none (seen bodies p.1)) e
-none_comes bodies input (Came earlier) left e = ap (λ (p : Left). left_none (seen bodies p.1)) e
-none_comes bodies input (Awaiting awaited key) left e = absurd (no_pair (key, input) (sym (ap (λ (p : Left). p.0) e)))
+none_resumes : (bodies : Bodies) (input : Value) (w left : Waiting ℕ) → (None, left) ≡ resume input w
+    → left_none (seen bodies left) ≡ resume input (seen bodies w)
+none_resumes bodies input Nothing left e = ap (λ (p : Left). left_none (seen bodies p.1)) e
+none_resumes bodies input Adding left e = ap (λ (p : Left). left_none (seen bodies p.1)) e
+none_resumes bodies input (Arrived earlier) left e = ap (λ (p : Left). left_none (seen bodies p.1)) e
+none_resumes bodies input (Awaiting awaited key) left e = absurd (no_pair (key, input) (sym (ap (λ (p : Left). p.0) e)))
 
-pub come_none : (bodies : Bodies) (place : ℕ) (kept : List (Waiting ℕ)) (input : Value) (w left : Waiting ℕ)
-    → slice_get kept place ≡ Some w → (None, left) ≡ come input w
-    → gone_none (seen_all bodies (slice_set kept place left)) ≡ come_to place input (seen_all bodies kept)
-come_none bodies place kept input w left g e =
+pub resume_none : (bodies : Bodies) (place : ℕ) (kept : List (Waiting ℕ)) (input : Value) (w left : Waiting ℕ)
+    → slice_get kept place ≡ Some w → (None, left) ≡ resume input w
+    → gone_none (seen_all bodies (slice_set kept place left)) ≡ resume_at place input (seen_all bodies kept)
+resume_none bodies place kept input w left g e =
     ap gone_none (seen_put bodies kept place left)
-    ∙ ap (λ (l : LeftSeen). gone_on place l (seen_all bodies kept)) (none_comes bodies input w left e)
-    ∙ ap (λ (o : Option (Waiting Position)). come_at o place input (seen_all bodies kept))
+    ∙ ap (λ (l : LeftSeen). gone_on place l (seen_all bodies kept)) (none_resumes bodies input w left e)
+    ∙ ap (λ (o : Option (Waiting Position)). resume_found o place input (seen_all bodies kept))
     (sym (seen_at bodies place kept (Some w) g))
 
 -- what comes reaches the body with this key
-pub record Reaches (input came : Value) (w left : Waiting ℕ) (key : ℕ) : Type 0 where
+pub record Reaches (input arrived : Value) (w left : Waiting ℕ) (key : ℕ) : Type 0 where
   pub awaited : ℕ
   pub was : w ≡ Awaiting awaited key
   pub is : left ≡ Nothing
-  pub same : came ≡ input
+  pub same : arrived ≡ input
 
 pair_is : (p q : ℕ × Value) → Some p ≡ Some q → p ≡ q
 pair_is p q e = cc
 
-reaches_by : (input came : Value) (w left : Waiting ℕ) (key : ℕ) → (Some (key, came), left) ≡ come input w
-    → Reaches input came w left key
-reaches_by input came Nothing left key e = absurd (no_pair (key, came) (ap (λ (p : Left). p.0) e))
-reaches_by input came Adding left key e = absurd (no_pair (key, came) (ap (λ (p : Left). p.0) e))
-reaches_by input came (Came earlier) left key e = absurd (no_pair (key, came) (ap (λ (p : Left). p.0) e))
-reaches_by input came (Awaiting awaited other) left key e =
-    let pair = pair_is (key, came) (other, input) (ap (λ (p : Left). p.0) e) in
+reaches_by : (input arrived : Value) (w left : Waiting ℕ) (key : ℕ) → (Some (key, arrived), left) ≡ resume input w
+    → Reaches input arrived w left key
+reaches_by input arrived Nothing left key e = absurd (no_pair (key, arrived) (ap (λ (p : Left). p.0) e))
+reaches_by input arrived Adding left key e = absurd (no_pair (key, arrived) (ap (λ (p : Left). p.0) e))
+reaches_by input arrived (Arrived earlier) left key e = absurd (no_pair (key, arrived) (ap (λ (p : Left). p.0) e))
+reaches_by input arrived (Awaiting awaited other) left key e =
+    let pair = pair_is (key, arrived) (other, input) (ap (λ (p : Left). p.0) e) in
     record {
       awaited = awaited;
       was = ap (λ (p : ℕ × Value). Awaiting awaited p.0) (sym pair);
@@ -365,31 +366,32 @@ reaches_by input came (Awaiting awaited other) left key e =
       same = ap (λ (p : ℕ × Value). p.1) pair;
     }
 
-pub reached_body : (old : Bodies) (place : ℕ) (kept : List (Waiting ℕ)) (input came : Value) (w left : Waiting ℕ)
-    (key : ℕ) → IsKept old kept → slice_get kept place ≡ Some w → (Some (key, came), left) ≡ come input w
+pub reached_body : (old : Bodies) (place : ℕ) (kept : List (Waiting ℕ)) (input arrived : Value) (w left : Waiting ℕ)
+    (key : ℕ) → IsKept old kept → slice_get kept place ≡ Some w → (Some (key, arrived), left) ≡ resume input w
     → body_under old key ≡ None → ⊥
-reached_body old place kept input came w left key h g e n =
-    let r = reaches_by input came w left key e in
+reached_body old place kept input arrived w left key h g e n =
+    let r = reaches_by input arrived w left key e in
     found_none old place r.awaited key kept h (g ∙ ap Some r.was) n
 
-pub kept_reached : (old new : Bodies) (place : ℕ) (kept : List (Waiting ℕ)) (input came : Value) (w left : Waiting ℕ)
-    (key : ℕ) → IsKept old kept → slice_get kept place ≡ Some w → (Some (key, came), left) ≡ come input w
+pub kept_reached : (old new : Bodies) (place : ℕ) (kept : List (Waiting ℕ)) (input arrived : Value) (w left : Waiting ℕ)
+    (key : ℕ) → IsKept old kept → slice_get kept place ≡ Some w → (Some (key, arrived), left) ≡ resume input w
     → Changes old new key None → IsKept new (slice_set kept place left)
-kept_reached old new place kept input came w left key h g e c =
-    let r = reaches_by input came w left key e in
+kept_reached old new place kept input arrived w left key h g e c =
+    let r = reaches_by input arrived w left key e in
     kept_out old new place r.awaited key kept left h (g ∙ ap Some r.was) c (subst (IsOnly new key) (sym r.is) tt)
 
-pub come_some : (old new : Bodies) (place : ℕ) (kept : List (Waiting ℕ)) (input came : Value) (w left : Waiting ℕ)
+pub resume_some : (old new : Bodies) (place : ℕ) (kept : List (Waiting ℕ)) (input arrived : Value) (w left : Waiting ℕ)
     (key : ℕ) (body : Position) → IsKept old kept → slice_get kept place ≡ Some w
-    → (Some (key, came), left) ≡ come input w → body_under old key ≡ Some body → Changes old new key None →
-    gone_some body came (seen_all new (slice_set kept place left)) ≡ come_to place input (seen_all old kept)
-come_some old new place kept input came w left key body h g e b c =
-    let r = reaches_by input came w left key e in
+    → (Some (key, arrived), left) ≡ resume input w → body_under old key ≡ Some body → Changes old new key None →
+    gone_some body arrived (seen_all new (slice_set kept place left)) ≡ resume_at place input (seen_all old kept)
+resume_some old new place kept input arrived w left key body h g e b c =
+    let r = reaches_by input arrived w left key e in
     let found = g ∙ ap Some r.was in
     ap (λ (v : Value). gone_some body v (seen_all new (slice_set kept place left))) r.same
     ∙ ap (λ (x : Waiting ℕ). gone_some body input (seen_all new (slice_set kept place x))) r.is
     ∙ ap (gone_some body input) (seen_out old new place r.awaited key kept Nothing h found c)
-    ∙ ap (λ (o : Option (Waiting Position)). come_at o place input (seen_all old kept)) (sym (seen_at old place kept
+    ∙ ap (λ (o : Option (Waiting Position)). resume_found o place input (seen_all old kept))
+    (sym (seen_at old place kept
     (Some (Awaiting r.awaited key)) found ∙ ap (λ (o : Option Position). Some (awaiting r.awaited o)) b))
 
 -- what came meanwhile is taken out
@@ -399,7 +401,7 @@ Took = Option Value × Waiting ℕ
 pub took_keyless : (i : Value) (w left : Waiting ℕ) → (Some i, left) ≡ taken w → IsKeyless left
 took_keyless i Nothing left e = absurd (no_input i (ap (λ (p : Took). p.0) e))
 took_keyless i Adding left e = absurd (no_input i (ap (λ (p : Took). p.0) e))
-took_keyless i (Came input) left e = keyless_by left Nothing (ap (λ (p : Took). p.1) e) tt
+took_keyless i (Arrived input) left e = keyless_by left Nothing (ap (λ (p : Took). p.1) e) tt
 took_keyless i (Awaiting awaited key) left e = absurd (no_input i (ap (λ (p : Took). p.0) e))
 
 input_is : (i j : Value) → Some i ≡ Some j → i ≡ j
@@ -409,7 +411,7 @@ took_added : (bodies : Bodies) (awaited : ℕ) (body : Position) (i : Value) (w 
     → (Some i, left) ≡ taken w → left_some body i (seen bodies left) ≡ added awaited body (seen bodies w)
 took_added bodies awaited body i Nothing left e = absurd (no_input i (ap (λ (p : Took). p.0) e))
 took_added bodies awaited body i Adding left e = absurd (no_input i (ap (λ (p : Took). p.0) e))
-took_added bodies awaited body i (Came input) left e =
+took_added bodies awaited body i (Arrived input) left e =
     ap (λ (x : Waiting ℕ). left_some body i (seen bodies x)) (ap (λ (p : Took). p.1) e)
     ∙ ap (λ (v : Value). left_some body v Nothing) (input_is i input (ap (λ (p : Took). p.0) e))
 took_added bodies awaited body i (Awaiting earlier key) left e = absurd (no_input i (ap (λ (p : Took). p.0) e))
@@ -428,7 +430,7 @@ end_some bodies place awaited kept body i w left g e =
 pub took_none : (w left : Waiting ℕ) → (None, left) ≡ taken w → left ≡ w
 took_none Nothing left e = ap (λ (p : Took). p.1) e
 took_none Adding left e = ap (λ (p : Took). p.1) e
-took_none (Came input) left e = absurd (no_input input (sym (ap (λ (p : Took). p.0) e)))
+took_none (Arrived input) left e = absurd (no_input input (sym (ap (λ (p : Took). p.0) e)))
 took_none (Awaiting awaited key) left e = ap (λ (p : Took). p.1) e
 
 waiting_is : (w x : Waiting ℕ) → Some w ≡ Some x → w ≡ x
@@ -460,7 +462,7 @@ none_added : (bodies : Bodies) (awaited : ℕ) (body : Position) (w left : Waiti
 none_added bodies awaited body Nothing left e n = ap (λ (p : Took). left_none (seen bodies p.1)) e
 none_added bodies awaited body Adding left e n =
     let no : true ≡ false = sym (ap (λ (p : Took). is_adding p.1) e) ∙ n in absurd cc
-none_added bodies awaited body (Came input) left e n = absurd (no_input input (sym (ap (λ (p : Took). p.0) e)))
+none_added bodies awaited body (Arrived input) left e n = absurd (no_input input (sym (ap (λ (p : Took). p.0) e)))
 none_added bodies awaited body (Awaiting earlier key) left e n =
     ap (λ (p : Took). left_none (seen bodies p.1)) e ∙ none_added_by awaited earlier body (body_under bodies key)
 
@@ -480,7 +482,7 @@ end_none bodies place awaited kept body w left g e n =
 adding_is : (w : Waiting ℕ) → is_adding w ≡ true → w ≡ Adding
 adding_is Nothing e = absurd cc
 adding_is Adding e = refl
-adding_is (Came input) e = absurd cc
+adding_is (Arrived input) e = absurd cc
 adding_is (Awaiting awaited key) e = absurd cc
 
 pub end_adds : (old new : Bodies) (place awaited key : ℕ) (kept : List (Waiting ℕ)) (body : Position)
@@ -503,7 +505,7 @@ awaited_seen : (bodies : Bodies) (later : List (Waiting ℕ)) (w : Waiting ℕ) 
     → awaited_of w ≡ awaited_of (seen bodies w)
 awaited_seen bodies later Nothing h = refl
 awaited_seen bodies later Adding h = refl
-awaited_seen bodies later (Came input) h = refl
+awaited_seen bodies later (Arrived input) h = refl
 awaited_seen bodies later (Awaiting awaited key) h = awaited_some awaited (body_under bodies key) h.0
 
 pub awaited_is : (bodies : Bodies) (place : ℕ) (kept : List (Waiting ℕ)) (w : Waiting ℕ) → IsKept bodies kept

@@ -41,7 +41,7 @@ new_cooperator units delay = record {
 abbrev pub with_units : ℕ → Cooperator → Cooperator
 with_units units c = record c { units = units }
 
--- the result of a task, for whoever waits for its end
+-- the result of a task, for each waiter for its end
 abbrev pub result_of : List ℕ → TaskEnd → Value
 result_of name Finished = Text name
 result_of name Stopped = fault task_stopped []
@@ -123,7 +123,7 @@ abbrev pub next_body : Option Task → Option Body
 next_body None = None
 next_body (Some x) = slice_get x.bodies 0
 
--- who waits for the end of the task that is found
+-- the waiters for the end of the task that is found
 abbrev pub waiting_for : Option Task → List ℕ
 waiting_for None = []
 waiting_for (Some x) = x.waiting

@@ -3,9 +3,9 @@ use Rattle.std.specs.Prelude.{◌≢◌, ℕ, List, [], ◌∷◌, map, Option, 
 use Rattle.dv_inline.specs.Parked.{Bodies, body_under}
 use Rattle.dv_inline.specs.Position.{Position}
 use Rattle.dv_value.specs.declared.value.Value.{Value}
-use Rattle.dv_objects.specs.Waiting.{come, added, awaited_of}
+use Rattle.dv_objects.specs.Waiting.{resume, added, awaited_of}
 use Rattle.dv_objects.specs.declared.waiting.Waiting.{Waiting}
-use Rattle.dv_objects.specs.declared.waiting.Waiting.TheVariants.{Nothing, Adding, Came, Awaiting}
+use Rattle.dv_objects.specs.declared.waiting.Waiting.TheVariants.{Nothing, Adding, Arrived, Awaiting}
 
 -- what each inline body waits for, with the body itself where it awaits
 abbrev pub Inlines : Type 0
@@ -23,14 +23,14 @@ now_waiting place waiting inlines = slice_set inlines place waiting
 abbrev pub gone_on : ℕ → Option (Position × Value) × Waiting Position → Inlines → GoneOn
 gone_on place left inlines = (left.0, now_waiting place left.1 inlines)
 
--- what comes reaches the one that is found; where none is, it reaches nobody
-abbrev pub come_at : Option (Waiting Position) → ℕ → Value → Inlines → GoneOn
-come_at None place input inlines = (None, inlines)
-come_at (Some waiting) place input inlines = gone_on place (come input waiting) inlines
+-- a result resumes the one that is found; if none is, nothing changes
+abbrev pub resume_found : Option (Waiting Position) → ℕ → Value → Inlines → GoneOn
+resume_found None place input inlines = (None, inlines)
+resume_found (Some waiting) place input inlines = gone_on place (resume input waiting) inlines
 
--- what comes reaches the one at a place
-abbrev pub come_to : ℕ → Value → Inlines → GoneOn
-come_to place input inlines = come_at (slice_get inlines place) place input inlines
+-- a result resumes the one at a place
+abbrev pub resume_at : ℕ → Value → Inlines → GoneOn
+resume_at place input inlines = resume_found (slice_get inlines place) place input inlines
 
 -- the pair of the one that is found has been added to this Deferred; where none is, nothing changes
 abbrev pub end_adding_at : Option (Waiting Position) → ℕ → ℕ → Position → Inlines → GoneOn
@@ -59,7 +59,7 @@ awaiting awaited (Some body) = Awaiting awaited body
 abbrev pub seen : Bodies → Waiting ℕ → Waiting Position
 seen bodies Nothing = Nothing
 seen bodies Adding = Adding
-seen bodies (Came input) = Came input
+seen bodies (Arrived input) = Arrived input
 seen bodies (Awaiting awaited key) = awaiting awaited (body_under bodies key)
 
 -- the same of all
@@ -70,7 +70,7 @@ seen_all bodies kept = map (seen bodies) kept
 abbrev pub IsOther : ℕ → Waiting ℕ → Type 0
 IsOther key Nothing = Unit
 IsOther key Adding = Unit
-IsOther key (Came input) = Unit
+IsOther key (Arrived input) = Unit
 IsOther key (Awaiting awaited other) = other ≢ key
 
 -- none has this key
@@ -82,7 +82,7 @@ Lacks key (waiting ∷ kept) = IsOther key waiting × Lacks key kept
 abbrev pub IsApart : Bodies → List (Waiting ℕ) → Waiting ℕ → Type 0
 IsApart bodies later Nothing = Unit
 IsApart bodies later Adding = Unit
-IsApart bodies later (Came input) = Unit
+IsApart bodies later (Arrived input) = Unit
 IsApart bodies later (Awaiting awaited key) = IsSome (body_under bodies key) × Lacks key later
 
 -- under each key a body is parked, and no two have the same key

@@ -102,7 +102,7 @@ abbrev pub queue_changed : ℕ → (Queue → Queue) → Option Queue → Object
 queue_changed k change None objects = objects
 queue_changed k change (Some q) objects = with_queue k (change q) objects
 
--- a list is added, to which no child has come
+-- a list is added, no child of which has fired
 abbrev pub with_new_list : ℕ → Flags → Objects → Objects
 with_new_list children flags objects = record objects { lists = objects.lists ++ new_gather children flags ∷ [] }
 
@@ -123,7 +123,7 @@ with_new_call name due body objects =
 abbrev pub with_delivery : ℕ → ℕ → ℕ → Objects → Objects
 with_delivery job d due objects = record objects { clock = with_call due (Delivery job d) objects.clock }
 
--- a timer of d is added, whose time comes then
+-- a timer of d is added, which expires then
 abbrev pub with_timer : ℕ → ℕ → Objects → Objects
 with_timer d due objects = record objects { clock = with_call due (Timeout d) objects.clock }
 

@@ -30,7 +30,7 @@ both on_value on_failure = record { callback = Some (side.Body on_value); errbac
 abbrev pub chain : ℕ → Pair
 chain to = record { callback = Some (side.Fire to); errback = Some (side.Fire to) }
 
--- both turn a cancellation into TimeoutError where the time of a timer has come
+-- both turn a cancellation into TimeoutError if a timer has expired
 abbrev pub timing : ℕ → Pair
 timing t = record { callback = Some (side.Timed t); errback = Some (side.Timed t) }
 
@@ -47,9 +47,9 @@ watching t (Some body) = on_timeout t body
 abbrev pub ending : ℕ → Pair
 ending t = record { callback = Some (side.EndTimer t); errback = Some (side.EndTimer t) }
 
--- both reach a DeferredList as its child
-abbrev pub coming : Child → Pair
-coming child = record { callback = Some (side.Come child); errback = Some (side.Come child) }
+-- both report to a DeferredList as its child
+abbrev pub reporting : Child → Pair
+reporting child = record { callback = Some (side.Report child); errback = Some (side.Report child) }
 
 -- a callback that takes what the children gave out of the result of a list
 abbrev pub results : Pair
@@ -84,7 +84,7 @@ pair_of (kind.Chain to) = chain to
 pair_of (kind.Timing t) = timing t
 pair_of (kind.OnTimeout t body) = on_timeout t body
 pair_of (kind.Ending t) = ending t
-pair_of (kind.Coming child) = coming child
+pair_of (kind.Reporting child) = reporting child
 pair_of kind.Results = results
 pair_of (kind.Holding lock body) = holding lock body
 pair_of (kind.Releasing lock) = releasing lock

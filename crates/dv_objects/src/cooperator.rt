@@ -176,8 +176,8 @@ impl<'s> Cooperator<'s> {
         Ok(())
     }
 
-    /// A task has ended, and takes no turns any more; the Deferreds that wait for its end come
-    /// back.
+    /// A task has ended, and takes no turns any more; the Deferreds that wait for its end are
+    /// returned.
     pub fn end(&mut self, id: TaskId, end: TaskEnd) -> Items<DeferredId>
         ensures waiting { result ≡ waiting_for (slice_get self.old.tasks id) }
         ensures rest { self.new ≡ changing (with_end id end)

@@ -40,7 +40,7 @@ impl<'s> Model for Inlines<'s> {
 }
 
 impl<'s> Inlines<'s> {
-    ghost use Rattle.dv_objects.specs.Inlines.{now_waiting, come_to, end_adding, awaited_by};
+    ghost use Rattle.dv_objects.specs.Inlines.{now_waiting, resume_at, end_adding, awaited_by};
 
     /// There are no inline bodies.
     pub fn new(alloc: Global) -> Inlines<'s>
@@ -70,27 +70,28 @@ impl<'s> Inlines<'s> {
 
     /// The pair of an inline body is being added to the Deferred that it is going to await. What it
     /// waited for before is dropped.
-    pub fn begin(&mut self, place: usize)
+    pub fn begin_adding(&mut self, place: usize)
         ensures { self.new ≡ now_waiting place Waiting.Adding self.old }
     {
         let Some(waiting) = self.kept.get_mut(place) else {
             return;
         };
-        if let Some(key) = waiting.begin() {
+        if let Some(key) = waiting.begin_adding() {
             self.parked.discard(key);
         }
     }
 
-    /// What an inline body awaits comes. Where it awaits, its body comes back with that, to go on;
-    /// where its pair is being added still, that is kept for the end of that; else it is dropped.
-    pub fn come(&mut self, place: usize, input: Value) -> Option<(InlineBody<'s>, Value)>
-        ensures { (result, self.new) ≡ come_to place input self.old }
+    /// The result that an inline body awaits arrives. A body that awaits is returned with it, to go
+    /// on. If its pair is still being added, the result is kept for the end of that; else it is
+    /// dropped.
+    pub fn resume(&mut self, place: usize, input: Value) -> Option<(InlineBody<'s>, Value)>
+        ensures { (result, self.new) ≡ resume_at place input self.old }
     {
         let Some(waiting) = self.kept.get_mut(place) else {
             drop(input);
             return None;
         };
-        let (key, input) = waiting.come(input)?;
+        let (key, input) = waiting.resume(input)?;
         let Some(body) = self.parked.unpark(key) else {
             drop(input);
             return None;
@@ -98,10 +99,10 @@ impl<'s> Inlines<'s> {
         Some((body, input))
     }
 
-    /// The pair of an inline body has been added to a Deferred. Where that came meanwhile, the body
-    /// comes back with it, to go on; else it awaits the Deferred. Where it wasn't being added,
-    /// nothing changes, and the body is dropped.
-    pub fn end(
+    /// The pair of an inline body has been added to a Deferred. If its result arrived meanwhile,
+    /// the body is returned with it, to go on; else it awaits the Deferred. If the pair wasn't
+    /// being added, nothing changes, and the body is dropped.
+    pub fn end_adding(
         &mut self,
         place: usize,
         awaited: DeferredId,

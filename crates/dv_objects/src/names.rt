@@ -5,8 +5,8 @@ use std::alloc::{AllocError, Global};
 use std::hash::RandomState;
 use std::marker::Model;
 
-/// The names of one kind of objects, each bound to one; a name that is made again is bound anew.
-/// Names are looked up by a hash with keys, since who writes a script chooses them.
+/// The names of one kind of objects, each bound to one; a name that is made again is rebound. Names
+/// are looked up by a hash with keys, since the author of a script chooses them.
 #[derive(Drop)]
 pub struct Names<I> {
     alloc: Global,

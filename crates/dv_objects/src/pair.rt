@@ -32,17 +32,18 @@ pub enum Side<'s> {
     /// This Deferred is fired with the value, and the side returns null (Twisted: what
     /// `Deferred.chainDeferred` adds).
     Fire(DeferredId),
-    /// The value is passed on, but TimeoutError in place of a cancellation where the time of this
-    /// timer has come (Twisted: the first of the two that `Deferred.addTimeout` adds).
+    /// The value is passed on, but TimeoutError in place of a cancellation if this timer has
+    /// expired (Twisted: the first of the two that `Deferred.addTimeout` adds).
     Timed(CallId),
     /// The body runs on the value where the time of this timer has come; else the value is passed on
     /// (Twisted: the first of the two, with `onTimeoutCancel`).
     OnTimeout(CallId, BodyRef<'s>),
-    /// This timer ends, where its time hasn't come, and the value is passed on (Twisted: the second
-    /// of the two).
+    /// This timer ends, if it hasn't expired, and the value is passed on (Twisted: the second of
+    /// the two).
     EndTimer(CallId),
-    /// It reaches a DeferredList as this child (Twisted: what `DeferredList` adds to each child).
-    Come(Child),
+    /// It reports to a DeferredList as this child (Twisted: what `DeferredList` adds to each
+    /// child).
+    Report(Child),
     /// What the children of a DeferredList gave is taken out of its result (Twisted: what
     /// `gatherResults` adds).
     Results,
@@ -65,8 +66,8 @@ pub enum Side<'s> {
     /// This task ends with the value, a failure, unless it has ended; the side returns null
     /// (Twisted: the errback that `CooperativeTask` adds).
     FailTask(TaskId),
-    /// What this inline body awaits has come: the body goes on with the value, a failure of which
-    /// is thrown. The side returns null (Twisted: what `inlineCallbacks` adds to what is awaited).
+    /// The result that this inline body awaits: the body goes on with it, and a failure is thrown.
+    /// The side returns null (Twisted: what `inlineCallbacks` adds to what is awaited).
     Resume(Inline),
 }
 
@@ -83,7 +84,7 @@ enum Kind<'s> {
     Timing(CallId),
     OnTimeout(CallId, BodyRef<'s>),
     Ending(CallId),
-    Coming(Child),
+    Reporting(Child),
     Results,
     Holding(LockId, BodyRef<'s>),
     Releasing(LockId),
@@ -123,9 +124,9 @@ impl<'s> Model for Pair<'s> {
 }
 
 impl<'s> Pair<'s> {
-    ghost use Rattle.dv_objects.specs.Pair.{callback, errback, both, chain, timing, watching, ending};
-    ghost use Rattle.dv_objects.specs.Pair.{coming, results, holding, releasing, turning, resuming};
-    ghost use Rattle.dv_objects.specs.Pair.{continuing, side_for};
+    ghost use Rattle.dv_objects.specs.Pair.{callback, errback, both, chain, timing, watching};
+    ghost use Rattle.dv_objects.specs.Pair.{ending, reporting, results, holding, releasing};
+    ghost use Rattle.dv_objects.specs.Pair.{turning, resuming, continuing, side_for};
 
     /// A callback alone (Twisted: `Deferred.addCallback`).
     pub fn callback(body: &'s Body) -> Pair<'s>
@@ -163,7 +164,7 @@ impl<'s> Pair<'s> {
         }
     }
 
-    /// Both turn a cancellation into TimeoutError where the time of a timer has come (Twisted:
+    /// Both turn a cancellation into TimeoutError if a timer has expired (Twisted:
     /// `Deferred.addTimeout`).
     pub fn timing(timer: CallId) -> Pair<'s>
         ensures { result ≡ timing timer }
@@ -196,12 +197,12 @@ impl<'s> Pair<'s> {
         }
     }
 
-    /// Both reach a DeferredList (Twisted: `DeferredList.__init__`).
-    pub fn coming(child: Child) -> Pair<'s>
-        ensures { result ≡ coming child }
+    /// Both report to a DeferredList (Twisted: `DeferredList.__init__`).
+    pub fn reporting(child: Child) -> Pair<'s>
+        ensures { result ≡ reporting child }
     {
         Pair {
-            kind: Kind::Coming(child),
+            kind: Kind::Reporting(child),
         }
     }
 
@@ -284,7 +285,7 @@ fn callback_of<'s>(kind: Kind<'s>) -> Option<Side<'s>>
         Kind::Timing(timer) => Some(Side::Timed(timer)),
         Kind::OnTimeout(timer, body) => Some(Side::OnTimeout(timer, body)),
         Kind::Ending(timer) => Some(Side::EndTimer(timer)),
-        Kind::Coming(child) => Some(Side::Come(child)),
+        Kind::Reporting(child) => Some(Side::Report(child)),
         Kind::Results => Some(Side::Results),
         Kind::Holding(lock, body) => Some(Side::Hold(lock, body)),
         Kind::Releasing(lock) => Some(Side::Release(lock)),
@@ -305,7 +306,7 @@ fn errback_of<'s>(kind: Kind<'s>) -> Option<Side<'s>>
         Kind::Timing(timer) => Some(Side::Timed(timer)),
         Kind::OnTimeout(timer, body) => Some(Side::OnTimeout(timer, body)),
         Kind::Ending(timer) => Some(Side::EndTimer(timer)),
-        Kind::Coming(child) => Some(Side::Come(child)),
+        Kind::Reporting(child) => Some(Side::Report(child)),
         Kind::Releasing(lock) => Some(Side::Release(lock)),
         Kind::Turning(looping) => Some(Side::EndLoop(looping)),
         Kind::Resuming(task) => Some(Side::FailTask(task)),
@@ -325,7 +326,7 @@ fn lacks<'s>(kind: &Kind<'s>, failed: bool) -> bool
         | Kind::Timing(_)
         | Kind::OnTimeout(..)
         | Kind::Ending(_)
-        | Kind::Coming(_)
+        | Kind::Reporting(_)
         | Kind::Releasing(_)
         | Kind::Turning(_)
         | Kind::Resuming(_)

@@ -39,8 +39,7 @@ pub struct Task<'s> {
 }
 
 impl TaskEnd {
-    /// What whoever waits for the end of a task is fired with (Twisted:
-    /// `CooperativeTask.whenDone`).
+    /// What each waiter for the end of a task is fired with (Twisted: `CooperativeTask.whenDone`).
     pub fn result(&self, alloc: Global, name: &str) -> Result<Value, AllocError>
         ensures { IfOk result (λ value. value ≡ result_of name.now self.now) }
     {

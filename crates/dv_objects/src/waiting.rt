@@ -1,5 +1,5 @@
 ghost use Rattle.std.specs.Prelude.{◌≡◌};
-ghost use Rattle.dv_objects.specs.Waiting.{body_of, awaited_of, is_adding, come, taken};
+ghost use Rattle.dv_objects.specs.Waiting.{body_of, awaited_of, is_adding, resume, taken};
 
 use dv_journal::deferred_id::DeferredId;
 use dv_value::value::Value;
@@ -13,8 +13,8 @@ pub enum Waiting<B> {
     Nothing,
     /// Its pair is being added to the Deferred that it is going to await.
     Adding,
-    /// What it is going to await came while its pair was being added.
-    Came(Value),
+    /// The result that it is going to await arrived while its pair was being added.
+    Arrived(Value),
     /// It awaits the Deferred.
     Awaiting(DeferredId, B),
 }
@@ -26,7 +26,7 @@ impl<B> Waiting<B> {
     {
         match self {
             Waiting::Awaiting(awaited, _) => Some(*awaited),
-            Waiting::Nothing | Waiting::Adding | Waiting::Came(_) => None,
+            Waiting::Nothing | Waiting::Adding | Waiting::Arrived(_) => None,
         }
     }
 
@@ -36,27 +36,27 @@ impl<B> Waiting<B> {
     {
         match self {
             Waiting::Adding => true,
-            Waiting::Nothing | Waiting::Came(_) | Waiting::Awaiting(_, _) => false,
+            Waiting::Nothing | Waiting::Arrived(_) | Waiting::Awaiting(_, _) => false,
         }
     }
 }
 
 impl<B: Drop> Waiting<B> {
-    /// Its pair is being added to a Deferred from now on. One that awaited comes back.
-    pub fn begin(&mut self) -> Option<B>
+    /// Its pair is being added to a Deferred from now on. Returns the body, if it awaited.
+    pub fn begin_adding(&mut self) -> Option<B>
         ensures body { result ≡ body_of self.old }
         ensures rest { self.new ≡ Waiting.Adding }
     {
         match mem::replace(self, Waiting::Adding) {
             Waiting::Awaiting(_, body) => Some(body),
-            Waiting::Nothing | Waiting::Adding | Waiting::Came(_) => None,
+            Waiting::Nothing | Waiting::Adding | Waiting::Arrived(_) => None,
         }
     }
 
-    /// What is awaited comes. Where a body awaits, it comes back with that, to go on; where its
-    /// pair is being added still, that is kept for the end of it; else it is dropped.
-    pub fn come(&mut self, input: Value) -> Option<(B, Value)>
-        ensures { (result, self.new) ≡ come input self.old }
+    /// The result that is awaited arrives. A body that awaits is returned with it, to go on. If its
+    /// pair is still being added, the result is kept for the end of that; else it is dropped.
+    pub fn resume(&mut self, input: Value) -> Option<(B, Value)>
+        ensures { (result, self.new) ≡ resume input self.old }
     {
         match mem::replace(self, Waiting::Nothing) {
             Waiting::Nothing => {
@@ -64,19 +64,19 @@ impl<B: Drop> Waiting<B> {
                 None
             }
             Waiting::Adding => {
-                self.set(Waiting::Came(input));
+                self.set(Waiting::Arrived(input));
                 None
             }
-            Waiting::Came(earlier) => {
+            Waiting::Arrived(earlier) => {
                 drop(input);
-                self.set(Waiting::Came(earlier));
+                self.set(Waiting::Arrived(earlier));
                 None
             }
             Waiting::Awaiting(_, body) => Some((body, input)),
         }
     }
 
-    /// Takes what came while its pair was being added, where something did.
+    /// Takes the result that arrived while its pair was being added, if one did.
     pub fn take(&mut self) -> Option<Value>
         ensures { (result, self.new) ≡ taken self.old }
     {
@@ -86,7 +86,7 @@ impl<B: Drop> Waiting<B> {
                 self.set(Waiting::Adding);
                 None
             }
-            Waiting::Came(input) => Some(input),
+            Waiting::Arrived(input) => Some(input),
             Waiting::Awaiting(awaited, body) => {
                 self.set(Waiting::Awaiting(awaited, body));
                 None

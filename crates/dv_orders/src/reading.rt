@@ -6,27 +6,27 @@ ghost use Rattle.dv_forms.specs.Answer.{Reads};
 ghost use Rattle.dv_orders.specs.Reading.{batch_at, batches_at, batches_in, posted_at};
 
 use dv_forms::leaf::{array, small, two};
-use dv_forms::stop::Stop;
+use dv_forms::shape_fault::ShapeFault;
 use dv_posts::posted::Posted;
 use dv_value::items::Items;
 use serde_json::Value as Json;
 use std::alloc::Global;
 
 /// Reads the batches that a text says. BadShape where it says none.
-pub fn read_batches(alloc: Global, text: &str) -> Result<Items<Items<Posted>>, Stop>
+pub fn read_batches(alloc: Global, text: &str) -> Result<Items<Items<Posted>>, ShapeFault>
     ensures { Reads result (batches_in text.now) }
 {
     match Json::from_slice(alloc, text.as_bytes()) {
         Ok(json) => batches(alloc, &json),
         Err(error) => if error.is_memory() {
-            Err(Stop::OutOfMemory)
+            Err(ShapeFault::OutOfMemory)
         } else {
-            Err(Stop::BadShape)
+            Err(ShapeFault::BadShape)
         },
     }
 }
 
-fn batches(alloc: Global, json: &Json) -> Result<Items<Items<Posted>>, Stop>
+fn batches(alloc: Global, json: &Json) -> Result<Items<Items<Posted>>, ShapeFault>
     ensures { Reads result (batches_at (view json.now)) }
 {
     let items = array(json)?;
@@ -37,7 +37,7 @@ fn batches(alloc: Global, json: &Json) -> Result<Items<Items<Posted>>, Stop>
     Ok(batches)
 }
 
-fn batch(alloc: Global, json: &Json) -> Result<Items<Posted>, Stop>
+fn batch(alloc: Global, json: &Json) -> Result<Items<Posted>, ShapeFault>
     ensures { Reads result (batch_at (view json.now)) }
 {
     let items = array(json)?;
@@ -48,7 +48,7 @@ fn batch(alloc: Global, json: &Json) -> Result<Items<Posted>, Stop>
     Ok(posts)
 }
 
-fn posted(json: &Json) -> Result<Posted, Stop>
+fn posted(json: &Json) -> Result<Posted, ShapeFault>
     ensures { Reads result (posted_at (view json.now)) }
 {
     let (caller, index) = two(array(json)?)?;

@@ -33,7 +33,7 @@ impl<T> Outcome<T, Hand<T>> for Puts {
     ghost then = { λ v x w. w ≡ hand v.parts (v.put ++ x ∷ []) v.taken };
 }
 
-/// What is taken. Who has every part learns the whole.
+/// What is taken. The holder of every part learns the whole.
 pub struct Takes;
 
 impl<T> Outcome<T, Hand<T>> for Takes {
@@ -94,7 +94,7 @@ pub fn take(answers: &Answers, token: &mut AnswerToken) -> Option<Answer>
     answers.try_pop_as::<Takes>(token)
 }
 
-/// Takes the answer at the front. Who has every part and finds none knows that all were taken.
+/// Takes the answer at the front. If the holder of every part finds none, all were taken.
 pub fn take_last<R: Wait>(rt: &R, answers: &Answers, token: &mut AnswerToken) -> Option<Answer>
     requires token { IsPassOf answers.now token.old }
     requires part { 0 < (view token.old).parts }

@@ -94,8 +94,7 @@ pub fn put(owner: &mut Owner, job: Job)
     }
 }
 
-/// The owner takes the job at the front. Who has every part and finds none knows that all were
-/// taken.
+/// The owner takes the job at the front. If it holds every part and finds none, all were taken.
 pub fn take(owner: &mut Owner) -> Option<Job>
     requires part { 0 < (worker_view owner.old).parts }
     requires fifo { worker_flavor owner.old ≡ 0 }

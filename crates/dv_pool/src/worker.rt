@@ -36,8 +36,9 @@ const LOOKS_BEFORE_REST: u32 = 128;
 /// How long it rests then before it looks again, in microseconds.
 const REST: u64 = 100;
 
-/// Lets others run where no job was found, so many times one after the other: by a yield at first,
-/// and then by a rest, so that workers that have nothing to do take little of the processors.
+/// Leaves the processor to others if no job was found, so many times one after the other: by a
+/// yield at first, and then by a rest, so that workers that have nothing to do take little of the
+/// processors.
 fn idle<R: Wait>(rt: &R, parker: &Parker, looks: u32) {
     if looks < LOOKS_BEFORE_REST {
         thread::yield_now();

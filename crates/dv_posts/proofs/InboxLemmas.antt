@@ -243,15 +243,15 @@ rest_other c i left rest after apart e =
     ∙ append-nil (of c rest)
 
 -- the posts of the callers below i, and none of the others
-pub record Drained (inbox : Inbox) (posters : List Poster) (i : ℕ) (rest : List Posted) : Type 0 where
+pub record LeftTaken (inbox : Inbox) (posters : List Poster) (i : ℕ) (rest : List Posted) : Type 0 where
   pub below : (c : ℕ) → c < i → taken_of inbox c ++ of c rest ≡ posts_of posters c
   pub above : (c : ℕ) → i ≤ c → of c rest ≡ []
 
-pub drained_more : (inbox : Inbox) (posters : List Poster) (i : ℕ) (r : Receiver) (p : Poster)
+pub left_taken_more : (inbox : Inbox) (posters : List Poster) (i : ℕ) (r : Receiver) (p : Poster)
     (rest after : List Posted) → AreOf inbox posters → i < callers_of inbox
     → r ≡ slice_index_or inbox.receivers i r → p ≡ slice_index_or posters i p → Leaves r p rest after
-    → Drained inbox posters i rest → Drained inbox posters (i + 1) after
-drained_more inbox posters i r p rest after are low here there leaves was = record {
+    → LeftTaken inbox posters i rest → LeftTaken inbox posters (i + 1) after
+left_taken_more inbox posters i r p rest after are low here there leaves was = record {
   below = λ c less. below_in c (i == c) refl less;
   above =
       λ c more. rest_other c i leaves.left rest after (let a : (i == c) ≡ false = grind (arith, nat_tests) in a) moved

@@ -97,7 +97,7 @@ impl Inbox {
         ensures counts { IfOk result (λ taken. taken.counts.items ≡ counts_of self) }
     {
         let counts = counts(alloc, &self.receivers)?;
-        let rest = drain_all(alloc, self.receivers, posters)?;
+        let rest = take_all_left(alloc, self.receivers, posters)?;
         Ok(Taken { rest, counts })
     }
 }
@@ -149,8 +149,8 @@ fn counts(alloc: Global, receivers: &[Receiver]) -> Result<Vec<u32>, AllocError>
     Ok(counts)
 }
 
-/// What is left of all.
-fn drain_all(
+/// Takes the posts of all callers that are left.
+fn take_all_left(
     alloc: Global,
     receivers: Vec<Receiver>,
     posters: Vec<Poster>,
@@ -162,7 +162,7 @@ fn drain_all(
     let mut posters = posters;
     let mut rest = Items::new(alloc);
     for caller in 0..receivers.len() {
-        receivers[caller].drain(&mut posters[caller], &mut rest)?;
+        receivers[caller].take_left(&mut posters[caller], &mut rest)?;
     }
     Ok(rest)
 }

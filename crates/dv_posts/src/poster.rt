@@ -58,9 +58,9 @@ impl Poster {
         self.caller
     }
 
-    /// Posts, without waiting (Twisted: `reactor.callFromThread`). The post comes back where the
-    /// ring is full of posts that weren't yet taken; the first ones, as many as the ring has room
-    /// for, are always accepted.
+    /// Posts, without waiting (Twisted: `reactor.callFromThread`). The post is returned if the ring
+    /// is full of posts that weren't yet taken; the first ones, as many as the ring has room for,
+    /// are always accepted.
     pub fn post(&mut self, posted: Posted) -> Result<(), Posted>
         requires own { posted.caller ≡ self.old.caller }
         ensures same { SamePoster self.old self.new }

@@ -88,8 +88,8 @@ impl Receiver {
         self.ring.slots_beside(&mut poster.producer)
     }
 
-    /// Takes the posts that are left, and puts them behind others.
-    pub(crate) fn drain(
+    /// Takes the posts that are left, and appends them to others.
+    pub(crate) fn take_left(
         &mut self,
         poster: &mut Poster,
         rest: &mut Items<Posted>,

@@ -8,17 +8,17 @@ use Rattle.dv_value.specs.declared.failure.Sub.{roll-Sub}
 use Rattle.dv_value.specs.declared.value.Value.{Value, out-Value}
 use Rattle.dv_value.specs.declared.value.Value.TheOpen.{Value-F}
 use Rattle.dv_value.specs.declared.value.Value.TheVariants as value
-use Rattle.dv_prims.specs.declared.gather.Came.{Came}
+use Rattle.dv_prims.specs.declared.gather.AfterChild.{AfterChild}
 use Rattle.dv_prims.specs.declared.gather.Flags.{Flags}
 
--- how it is fired and what failures of its children become; the place of each child, null as long as it hasn't come,
+-- how it is fired and what failures of its children become; the place of each child, null as long as it hasn't fired,
 -- and then whether it succeeded and with what; and whether the list is fired, and keeps nothing any more
 pub record Gather : Type 0 where
   pub flags : Flags
   pub places : List Value
   pub fired : Bool
 
--- no child has come
+-- no child has fired
 abbrev pub new_gather : ℕ → Flags → Gather
 new_gather children flags = record { flags = flags; places = replicate children value.Null; fired = false }
 
@@ -26,7 +26,7 @@ new_gather children flags = record { flags = flags; places = replicate children 
 abbrev pub without_places : Gather → Gather
 without_places g = record g { places = []; fired = true }
 
--- whether a child came with a value, and not a failure
+-- whether a child fired with a value, and not a failure
 abbrev pub succeeded : Value → Bool
 succeeded v = not (is_fault v)
 
@@ -58,11 +58,11 @@ is_null_step (Value-F.Fault f) = false
 abbrev pub is_missing : Value → Bool
 is_missing v = is_null_step (out-Value v)
 
--- a place counts one as long as no child has reached it
+-- a place counts one as long as its child hasn't fired
 abbrev pub missing_of : Value → ℕ
 missing_of v = if is_missing v then 1 else 0
 
--- how many children haven't come
+-- how many children haven't fired
 abbrev pub count_missing : List Value → ℕ
 count_missing places = sum_by missing_of places
 
@@ -70,7 +70,7 @@ count_missing places = sum_by missing_of places
 abbrev pub Due : Type 0
 Due = Option Value × Gather
 
--- once all have come it is fired with what is kept of them, in order
+-- once all children have fired, the list is fired with what is kept of them, in order
 abbrev pub due_at_last : Gather → Due
 due_at_last g = if nat_eq (count_missing g.places) 0 then (Some (value.List g.places), without_places g) else (None, g)
 
@@ -84,9 +84,9 @@ due_by_failure i None v g = due_when_kept i v g
 due_by_failure i (Some failure) v g =
     if g.flags.fire_on_one_errback then (Some (first_failure i failure), without_places g) else due_when_kept i v g
 
--- child i came with a value or a failure, of which the first that holds is done: a list that is fired fires nothing
--- more; a success fires it under `fireOnOneCallback`; a failure fires it under `fireOnOneErrback`; the last child fires
--- it
+-- child i fired with a value or a failure, and the first of these that holds is done: a list that is fired fires
+-- nothing more; a success fires it under `fireOnOneCallback`; a failure fires it under `fireOnOneErrback`; the last
+-- child fires it
 abbrev pub due : ℕ → Value → Gather → Due
 due i v g =
     if g.fired then (None, g) else
@@ -97,9 +97,9 @@ due i v g =
 abbrev pub passed_on : Value → Gather → Value
 passed_on v g = if g.flags.consume_errors && is_fault v then value.Null else v
 
--- what is answered for child i, and what the list has then
-abbrev pub came : ℕ → Value → Gather → Came × Gather
-came i v g = (record { fire = (due i v g).0; pass = passed_on v g }, (due i v g).1)
+-- what follows when child i has fired, and what the list has then
+abbrev pub child_fired : ℕ → Value → Gather → AfterChild × Gather
+child_fired i v g = (record { fire = (due i v g).0; pass = passed_on v g }, (due i v g).1)
 
 -- the second part of a list of two
 abbrev pub second_in : List Value → Option Value

@@ -13,7 +13,7 @@ use Rattle.dv_journal.specs.declared.error.Fault.{Fault}
 use Rattle.dv_journal.specs.declared.error.Fault.TheVariants as fault
 
 -- its name, how many values it stores at most and how many wait at most, none where there is no bound; the values that
--- are stored, from the one that was put first; and who waits for one, in order of asking
+-- are stored, from the one that was put first; and the waiters for one, in order of asking
 pub record Queue : Type 0 where
   pub name : List ℕ
   pub size : Option ℕ
@@ -21,7 +21,7 @@ pub record Queue : Type 0 where
   pub stored : List Value
   pub waiting : List ℕ
 
--- nothing is stored at first, and nobody waits
+-- nothing is stored at first, and none waits
 abbrev pub new_queue : List ℕ → Option ℕ → Option ℕ → Queue
 new_queue name size backlog = record { name = name; size = size; backlog = backlog; stored = []; waiting = [] }
 
@@ -50,12 +50,12 @@ may_get_by (first ∷ rest) q = true
 abbrev pub may_get : Queue → Bool
 may_get q = may_get_by q.stored q
 
--- a value goes to the first that waits, who waits no longer; with nobody waiting it is stored, last
+-- a value goes to the first waiter, which waits no longer; if there is none it is stored, last
 abbrev pub put_to : List ℕ → Value → Queue → Queue
 put_to [] value q = record q { stored = q.stored ++ value ∷ [] }
 put_to (first ∷ rest) value q = record q { waiting = rest }
 
--- who gets a value, and the value, where somebody waits
+-- the waiter that gets a value, and the value, if there is a waiter
 abbrev pub receiver : List ℕ → Value → Option (ℕ × Value)
 receiver [] value = None
 receiver (first ∷ rest) value = Some (first, value)
@@ -77,7 +77,7 @@ withdrawn d q = record q { waiting = without d q.waiting }
 abbrev pub Put : Type 0
 Put = Result (Option (ℕ × Value)) (Fault Overflow) × State Queue
 
--- a value that may be put is, and whoever gets it is answered
+-- a value that may be put is, and the waiter that gets it is returned
 abbrev pub put_in : Value → State Queue → Put
 put_in value s =
     if fits s.1 (entry.Put s.0.name value)

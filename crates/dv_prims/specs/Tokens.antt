@@ -14,7 +14,7 @@ use Rattle.dv_journal.specs.declared.error.Fault.TheVariants as fault
 use Rattle.dv_prims.specs.declared.semaphore.Grant.{Grant}
 use Rattle.dv_prims.specs.declared.semaphore.Grant.TheVariants.{Now, Waits}
 
--- its name, how many tokens it has and how many of them are given, and who waits for one, in order of asking
+-- its name, how many tokens it has and how many of them are given, and the waiters for one, in order of asking
 pub record Semaphore : Type 0 where
   pub name : List ℕ
   pub tokens : ℕ
@@ -45,7 +45,7 @@ is_unheld s = nat_eq s.given 0
 abbrev pub first_waiting : Semaphore → Option ℕ
 first_waiting s = slice_get s.waiting 0
 
--- whoever asks gets a token where one is free, and waits otherwise
+-- one that asks gets a token if one is free, and waits otherwise
 abbrev pub grant_of : Semaphore → Grant
 grant_of s = if has_free s then Now else Waits
 
@@ -53,7 +53,7 @@ grant_of s = if has_free s then Now else Waits
 abbrev pub asked : ℕ → Semaphore → Semaphore
 asked d s = if has_free s then record s { given = s.given + 1 } else record s { waiting = s.waiting ++ d ∷ [] }
 
--- a token that is released goes to the first that waits, who waits no longer; with nobody waiting it is free
+-- a token that is released goes to the first waiter, which waits no longer; if there is none it is free
 abbrev pub released_to : List ℕ → Semaphore → Semaphore
 released_to [] s = record s { given = s.given - 1 }
 released_to (first ∷ rest) s = record s { waiting = rest }
@@ -78,11 +78,11 @@ forgotten d s = record s { waiting = without d s.waiting }
 abbrev pub acquire : ℕ → State Semaphore → Told Grant Semaphore
 acquire d s = telling (entry.Acquire s.0.name d) (grant_of s.0) (asked d s.0) s
 
--- what a giving back answers, and what it leaves
+-- what a release returns, and what it leaves
 abbrev pub Released : Type 0
 Released = Result (Option ℕ) (Fault NotHeld) × State Semaphore
 
--- a token that is held is released, and whoever gets it is answered
+-- a token that is held is released, and the waiter that gets it is returned
 abbrev pub release_held : State Semaphore → Released
 release_held s =
     if fits s.1 (entry.Release s.0.name)

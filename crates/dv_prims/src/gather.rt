@@ -21,9 +21,9 @@ pub struct Flags {
     pub consume_errors: bool,
 }
 
-/// What follows when a child has come.
+/// What follows when a child has fired.
 #[derive(Debug, Drop)]
-pub struct Came {
+pub struct AfterChild {
     /// What the list is to be fired with, if it is.
     pub fire: Option<Value>,
     /// What the child goes on with.
@@ -36,7 +36,7 @@ pub struct Gather {
     alloc: Global,
     flags: Flags,
     places: Items<Value>,
-    /// How many children haven't come.
+    /// How many children haven't fired.
     missing: usize,
     fired: bool,
 }
@@ -58,9 +58,9 @@ impl Model for Gather {
 
 impl Gather {
     ghost use Rattle.dv_prims.specs.DeferredList.{new_gather, without_places, due, due_by_failure};
-    ghost use Rattle.dv_prims.specs.DeferredList.{due_when_kept, came};
+    ghost use Rattle.dv_prims.specs.DeferredList.{due_when_kept, child_fired};
 
-    /// No child has come.
+    /// No child has fired.
     pub fn new(alloc: Global, children: usize, flags: Flags) -> Result<Gather, AllocError>
         ensures { IfOk result (λ g. g ≡ new_gather children flags) }
     {
@@ -73,11 +73,11 @@ impl Gather {
         })
     }
 
-    /// A child came with its value, which may be a failure: answers what the list is to be fired
-    /// with, if it is, and what the child goes on with. A list that is fired fires nothing more.
-    /// Where the allocation fails, nothing changes.
-    pub fn came(&mut self, index: u32, value: Value) -> Result<Came, AllocError>
-        ensures ok { IfOk result (λ answer. (answer, self.new) ≡ came index value self.old) }
+    /// A child fired with this value, which may be a failure. Returns what the list is to be fired
+    /// with, if it is, and what the child goes on with. A list that is fired fires nothing more. If
+    /// the allocation fails, nothing changes.
+    pub fn child_fired(&mut self, index: u32, value: Value) -> Result<AfterChild, AllocError>
+        ensures ok { IfOk result (λ answer. (answer, self.new) ≡ child_fired index value self.old) }
         ensures err { OnErr result (self.new ≡ self.old) }
     {
         let consumes = self.flags.consume_errors && value.is_fault();
@@ -87,15 +87,15 @@ impl Gather {
         };
         if consumes {
             drop(value);
-            return Ok(Came {
+            return Ok(AfterChild {
                 fire,
                 pass: Value::Null,
             });
         }
-        Ok(Came { fire, pass: value })
+        Ok(AfterChild { fire, pass: value })
     }
 
-    /// The list was fired, by whomever: it fires nothing more by itself, and keeps nothing.
+    /// The list was fired, by itself or by other code: it fires nothing more, and keeps nothing.
     pub fn fired(&mut self)
         ensures { self.new ≡ without_places self.old }
     {
@@ -104,7 +104,7 @@ impl Gather {
         self.fired = true;
     }
 
-    /// What the list is to be fired with, now that a child has come.
+    /// What the list is to be fired with, now that a child has fired.
     fn due(&mut self, index: u32, value: &Value) -> Result<Option<Value>, AllocError>
         ensures ok { IfOk result (λ fire. (fire, self.new) ≡ due index value.now self.old) }
         ensures err { OnErr result (self.new ≡ self.old) }
@@ -132,7 +132,7 @@ impl Gather {
         }
     }
 
-    /// What a child came with is kept, and the last one fires the list with all.
+    /// The value of a child is kept, and the last child fires the list with all values.
     fn keep(&mut self, index: u32, value: &Value) -> Result<Option<Value>, AllocError>
         ensures ok { IfOk result
             (λ fire. (fire, self.new) ≡ due_when_kept index value.now self.old) }
@@ -154,7 +154,7 @@ ghost use Rattle.dv_value.specs.declared.value.Value.TheVariants.{Null, List};
 ghost use Rattle.dv_prims.specs.DeferredList.{is_missing, missing_of, count_missing, kept_of};
 ghost use Rattle.dv_prims.specs.DeferredList.{first_success, first_failure};
 
-/// Puts what is kept of a child into its place, and answers how many haven't come yet.
+/// Puts what is kept of a child into its place, and returns how many haven't fired yet.
 #[tactic(auto, using(crate::proofs::GatherLemmas::set_nowhere))]
 fn put_in_place(places: &mut Items<Value>, missing: usize, place: usize, kept: Value) -> usize
     requires counted { missing ≡ count_missing places.old }
@@ -172,7 +172,7 @@ fn put_in_place(places: &mut Items<Value>, missing: usize, place: usize, kept: V
     left
 }
 
-/// One for a place that no child has reached.
+/// One for a place whose child hasn't fired.
 fn missing_of(place: &Value) -> usize
     ensures { result ≡ missing_of place.now }
 {

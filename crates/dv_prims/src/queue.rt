@@ -21,7 +21,7 @@ pub struct QueueParts {
     pub name: Text,
     /// The values that are stored, from the one that was put first.
     pub stored: Deque<Value>,
-    /// The Deferreds that wait for a value, from who has waited longest.
+    /// The Deferreds that wait for a value, from the one that has waited longest.
     pub waiting: Items<DeferredId>,
 }
 

@@ -29,7 +29,7 @@ pub struct SemaphoreParts {
     pub tokens: u32,
     /// How many of them are given.
     pub given: u32,
-    /// The Deferreds that wait for a token, from who has waited longest.
+    /// The Deferreds that wait for a token, from the one that has waited longest.
     pub waiting: Items<DeferredId>,
 }
 
@@ -125,7 +125,7 @@ impl Semaphore {
         self.given == 0
     }
 
-    /// Who is to get the next token that is released; None where nobody waits.
+    /// The waiter that gets the next token that is released; None if there is none.
     pub fn first_waiting(&self) -> Option<DeferredId>
         ensures { result ≡ first_waiting self.now }
     {

@@ -10,10 +10,10 @@ use std::alloc::{AllocError, Global};
 use std::collections::{BTreeMap, BTreeSet};
 use std::marker::Model;
 
-/// Those that wait, in order of asking, which contracts see as their numbers, from who has waited
-/// longest. One that asks twice waits twice.
+/// The waiters, in order of asking, which contracts see as their numbers, from the one that has
+/// waited longest. One that asks twice waits twice.
 ///
-/// Each has a ticket, whose number grows with each that is given. Whoever is first, and the first
+/// Each has a ticket, whose number grows with each that is given. The first waiter, and the first
 /// ticket of any number, is found without a walk.
 #[derive(Drop)]
 pub struct WaitingList {
@@ -61,7 +61,7 @@ impl WaitingList {
         self.order.len()
     }
 
-    /// Who has waited longest.
+    /// The one that has waited longest.
     pub fn first(&self) -> Option<DeferredId>
         ensures { result ≡ slice_get self.now 0 }
     {
@@ -71,7 +71,7 @@ impl WaitingList {
         }
     }
 
-    /// All that wait, from who has waited longest.
+    /// All waiters, from the one that has waited longest.
     pub fn into_items(self, alloc: Global) -> Result<Items<DeferredId>, AllocError>
         ensures { IfOk result (λ items. items ≡ self) }
     {
@@ -96,7 +96,7 @@ impl WaitingList {
         Ok(())
     }
 
-    /// Takes who has waited longest.
+    /// Takes the one that has waited longest.
     pub fn pop_front(&mut self) -> Option<DeferredId>
         ensures value { result ≡ slice_get self.old 0 }
         ensures rest { self.new ≡ drop 1 self.old }
@@ -106,7 +106,7 @@ impl WaitingList {
         Some(DeferredId::new(number))
     }
 
-    /// Who came last waits no longer, if anybody waits.
+    /// The last in line waits no longer, if there is one.
     pub fn drop_back(&mut self)
         ensures { self.new ≡ take (length self.old - 1) self.old }
     {
@@ -151,7 +151,7 @@ ghost use Rattle.std.specs.BTreeSet.{contains};
 ghost use Rattle.std.specs.Ordering.{nat_cmp};
 ghost use Rattle.dv_prims.specs.Tickets.{by_number, Gives, Joins, Keeps};
 
-/// Keeps a ticket that nobody has, with who has it. Where the allocation fails, it isn't kept.
+/// Keeps a new ticket, with its waiter. If the allocation fails, it isn't kept.
 fn keep(
     order: &mut BTreeMap<u64, u32>,
     tickets: &mut BTreeSet<(u32, u64)>,

@@ -3,7 +3,7 @@ use Rattle.std.proofs.Common.{◌≡◌, ◌≢◌, ◌-◌, ℕ, zero, suc, Boo
 use Rattle.serde_json.specs.Data.{Data, array, Items}
 use Rattle.serde_json.specs.View.{items_view}
 use Rattle.serde_json.specs.declared.value.Value.{Value}
-use Rattle.dv_forms.specs.declared.want.Call.{Call}
+use Rattle.dv_forms.specs.declared.want.CallKind.{CallKind}
 use Rattle.dv_forms.specs.declared.want.Want.{Want}
 use Rattle.dv_forms.specs.declared.want.Want.TheVariants as want
 use Rattle.dv_questions.specs.Asking.{all_suit, call_suits, count, one_for_one}
@@ -22,7 +22,7 @@ none_left good (w ∷ ws) [] h = refl
 none_left good (w ∷ ws) (v ∷ vs) h = absurd (omega (arith, h))
 
 -- at an array where a call is asked for, its parts are asked
-pub at_call : (a : Asked) (levels : ℕ) (c : Call) (d : Data) (ds : Items) → levels ≢ 0 → d ≡ array ds
+pub at_call : (a : Asked) (levels : ℕ) (c : CallKind) (d : Data) (ds : Items) → levels ≢ 0 → d ≡ array ds
     → all_suit a levels (want.Call c) d ≡ call_suits a (all_suit a (levels - 1)) c ds
 unfolding all_suit
 at_call a zero c d ds some is = absurd (some refl)

@@ -9,7 +9,7 @@ use Rattle.dv_script.specs.declared.script.NamedPool.{NamedPool}
 use Rattle.dv_forms.specs.declared.want.Want.{Want}
 use Rattle.dv_forms.specs.declared.want.Want.TheVariants as want
 use Rattle.dv_forms.specs.declared.want.Leaf.{Leaf}
-use Rattle.dv_forms.specs.declared.want.Call.{Call}
+use Rattle.dv_forms.specs.declared.want.CallKind.{CallKind}
 use Rattle.dv_forms.specs.declared.want.Keyed.{Keyed}
 use Rattle.dv_forms.specs.declared.want.Keyed.TheVariants as keyed
 use Rattle.dv_forms.specs.declared.want.Leaf.TheVariants as leaf_of
@@ -28,7 +28,7 @@ both h k = rw (h, k) refl
 -- the second asks of no text more than the first
 pub record IsWeaker (a b : Asked) : Type 0 where
   pub leaf : (l : Leaf) (x : List ℕ) → a.of_leaf l x ≡ true → b.of_leaf l x ≡ true
-  pub word : (c : Call) (x : List ℕ) → a.of_word c x ≡ true → b.of_word c x ≡ true
+  pub word : (c : CallKind) (x : List ℕ) → a.of_word c x ≡ true → b.of_word c x ≡ true
   pub object : (k : Keyed) → a.of_object k ≡ true → b.of_object k ≡ true
 
 -- what is good in the first way is in the second
@@ -63,7 +63,7 @@ arguments_too : (f g : Want → Data → Bool) → Leads f g → (o : Option (Li
 arguments_too f g k None ds h = refl
 arguments_too f g k (Some ws) ds h = one_too f g k ws ds h
 
-call_too : (a b : Asked) (f g : Want → Data → Bool) → IsWeaker a b → Leads f g → (c : Call) (ds : Items)
+call_too : (a b : Asked) (f g : Want → Data → Bool) → IsWeaker a b → Leads f g → (c : CallKind) (ds : Items)
     → call_suits a f c ds ≡ true → call_suits b g c ds ≡ true
 call_too a b f g weak k c no_items h = refl
 call_too a b f g weak k c (item d ds) h =

@@ -4,7 +4,7 @@ use Rattle.serde_json.specs.Data.{Data, null, boolean, number, string, array, ob
 use Rattle.serde_json.specs.Find.{as_str, as_array, get}
 use Rattle.dv_forms.specs.declared.want.Want.{Want}
 use Rattle.dv_forms.specs.declared.want.Want.TheVariants as want
-use Rattle.dv_forms.specs.declared.want.Call.{Call}
+use Rattle.dv_forms.specs.declared.want.CallKind.{CallKind}
 use Rattle.dv_forms.specs.declared.want.Keyed.{Keyed}
 use Rattle.dv_forms.specs.declared.want.Keyed.TheVariants as keyed
 use Rattle.dv_forms.specs.declared.want.Leaf.TheVariants as leaf
@@ -54,11 +54,11 @@ arguments_suit good None ds = true
 arguments_suit good (Some wants) ds = one_for_one good wants ds
 
 -- of a word, and of what comes with it
-abbrev pub word_suits : Asked → (Want → Data → Bool) → Call → Items → List ℕ → Bool
+abbrev pub word_suits : Asked → (Want → Data → Bool) → CallKind → Items → List ℕ → Bool
 word_suits a good c ds word = a.of_word c word && arguments_suit good (wants_of c word (count ds)) ds
 
 -- of a call
-abbrev pub call_suits : Asked → (Want → Data → Bool) → Call → Items → Bool
+abbrev pub call_suits : Asked → (Want → Data → Bool) → CallKind → Items → Bool
 call_suits a good c no_items = true
 call_suits a good c (item d ds) = if_there (word_suits a good c ds) (as_str d)
 

@@ -9,7 +9,7 @@ use Rattle.dv_forms.specs.declared.want.Object.{Object}
 use Rattle.dv_forms.specs.declared.want.Object.TheVariants as object
 use Rattle.dv_forms.specs.declared.want.Leaf.{Leaf}
 use Rattle.dv_forms.specs.declared.want.Leaf.TheVariants as leaf
-use Rattle.dv_forms.specs.declared.want.Call.{Call}
+use Rattle.dv_forms.specs.declared.want.CallKind.{CallKind}
 use Rattle.dv_forms.specs.declared.want.Keyed.{Keyed}
 use Rattle.dv_forms.specs.declared.want.Keyed.TheVariants as keyed
 use Rattle.dv_forms.specs.Words.{may_stand}
@@ -23,7 +23,7 @@ abbrev pub is_found_named : ℕ → Object → List ℕ → Bool
 is_found_named version object.Deferred name = names_one version name
 is_found_named version object.Lock name = is_name version name
 is_found_named version object.Queue name = is_name version name
-is_found_named version object.Call name = is_name version name
+is_found_named version object.CallKind name = is_name version name
 is_found_named version object.Loop name = is_name version name
 is_found_named version object.Task name = is_name version name
 is_found_named version object.Pool name = is_name version name
@@ -48,7 +48,7 @@ abbrev pub has_object : ℕ → Object → Bool
 has_object version object.Deferred = true
 has_object version object.Lock = true
 has_object version object.Queue = true
-has_object version object.Call = true
+has_object version object.CallKind = true
 has_object version object.Loop = true
 has_object version object.Task = true
 has_object version object.Pool = true
@@ -83,7 +83,7 @@ is_class (leaf.New o) = false
 is_class (leaf.Found object.Deferred) = false
 is_class (leaf.Found object.Lock) = false
 is_class (leaf.Found object.Queue) = false
-is_class (leaf.Found object.Call) = false
+is_class (leaf.Found object.CallKind) = false
 is_class (leaf.Found object.Loop) = false
 is_class (leaf.Found object.Task) = false
 is_class (leaf.Found object.Pool) = false
@@ -104,7 +104,7 @@ is_pool (leaf.New o) = false
 is_pool (leaf.Found object.Deferred) = false
 is_pool (leaf.Found object.Lock) = false
 is_pool (leaf.Found object.Queue) = false
-is_pool (leaf.Found object.Call) = false
+is_pool (leaf.Found object.CallKind) = false
 is_pool (leaf.Found object.Loop) = false
 is_pool (leaf.Found object.Task) = false
 is_pool (leaf.Found object.Pool) = true
@@ -125,7 +125,7 @@ is_body (leaf.New o) = false
 is_body (leaf.Found object.Deferred) = false
 is_body (leaf.Found object.Lock) = false
 is_body (leaf.Found object.Queue) = false
-is_body (leaf.Found object.Call) = false
+is_body (leaf.Found object.CallKind) = false
 is_body (leaf.Found object.Loop) = false
 is_body (leaf.Found object.Task) = false
 is_body (leaf.Found object.Pool) = false
@@ -162,7 +162,7 @@ is_declared bodies l name = not (is_body l) || has_body name bodies
 -- a question: what it asks of a text at the place of a leaf, of the word of a call, and of an object
 pub record Asked : Type 0 where
   pub of_leaf : Leaf → List ℕ → Bool
-  pub of_word : Call → List ℕ → Bool
+  pub of_word : CallKind → List ℕ → Bool
   pub of_object : Keyed → Bool
 
 -- whether each word is one of this version, each comment, and each failure in a value

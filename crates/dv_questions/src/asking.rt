@@ -11,7 +11,7 @@ ghost use Rattle.dv_questions.specs.Asking.{one_for_one, word_suits};
 ghost use Rattle.dv_questions.specs.Questions.{asked_by};
 
 use crate::question::Question;
-use dv_forms::want::{Call, Keyed, Leaf, Object, Want, member_want};
+use dv_forms::want::{CallKind, Keyed, Leaf, Object, Want, member_want};
 use dv_forms::words::form_of;
 use serde_json::Value as Json;
 
@@ -24,7 +24,7 @@ fn leaf_suits(question: &Question<'_>, leaf: Leaf, json: &Json) -> bool
     }
 }
 
-fn first_suits(question: &Question<'_>, call: Call, json: &Json) -> bool
+fn first_suits(question: &Question<'_>, call: CallKind, json: &Json) -> bool
     ensures { result ≡ if_there ((asked_by question.now).of_word call) (as_str (view json.now)) }
 {
     match json.as_str() {
@@ -163,7 +163,7 @@ fn one_for_one(question: &Question<'_>, levels: u32, wants: &[Want], items: &[Js
 }
 
 #[cycle(ask)]
-fn call_suits(question: &Question<'_>, levels: u32, call: Call, parts: &[Json]) -> bool
+fn call_suits(question: &Question<'_>, levels: u32, call: CallKind, parts: &[Json]) -> bool
     ensures { result ≡ call_suits (asked_by question.now)
         (all_suit (asked_by question.now) levels) call (items_view parts.now) }
 {
@@ -181,7 +181,7 @@ fn call_suits(question: &Question<'_>, levels: u32, call: Call, parts: &[Json]) 
 fn word_suits(
     question: &Question<'_>,
     levels: u32,
-    call: Call,
+    call: CallKind,
     word: &str,
     arguments: &[Json],
 ) -> bool

@@ -9,7 +9,7 @@ ghost use Rattle.dv_questions.specs.Questions.{asked_by};
 
 use crate::names::{is_name, names_one};
 use dv_forms::versions::{BODIES_SINCE, COMMENTS_SINCE, FAILURES_SINCE};
-use dv_forms::want::{Call, Keyed, Leaf, Object};
+use dv_forms::want::{CallKind, Keyed, Leaf, Object};
 use dv_forms::words::may_stand;
 use dv_script::script::{NamedBody, NamedPool};
 use dv_value::classes::Classes;
@@ -283,7 +283,7 @@ impl Question<'_> {
     }
 
     /// Whether the word of a call answers well.
-    pub fn of_word(&self, call: Call, word: &str) -> bool
+    pub fn of_word(&self, call: CallKind, word: &str) -> bool
         ensures { result ≡ (asked_by self.now).of_word call word.now }
     {
         match self {
@@ -296,7 +296,7 @@ impl Question<'_> {
     }
 
     /// Whether the word of a call answers well, where a form of it stands since this version.
-    pub fn of_word_since(&self, call: Call, word: &str, since: u32) -> bool
+    pub fn of_word_since(&self, call: CallKind, word: &str, since: u32) -> bool
         requires since { (version : ℕ) → since ≤ version → may_stand call word.now version ≡ true }
         ensures { result ≡ (asked_by self.now).of_word call word.now }
     {

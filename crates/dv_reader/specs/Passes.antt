@@ -10,8 +10,8 @@ use Rattle.dv_reader.specs.declared.error.ScriptFault.{ScriptFault}
 use Rattle.dv_reader.specs.declared.error.ScriptFault.TheVariants.{TooLong, NotJson, BadVersion, BadShape, TooMany}
 use Rattle.dv_reader.specs.declared.error.ScriptFault.TheVariants.{BadName, BadClass, OutOfMemory, BadPool, BadBody}
 use Rattle.dv_forms.specs.declared.versions.TheConstants.{LAST_VERSION}
-use Rattle.dv_forms.specs.declared.stop.Stop.{Stop}
-use Rattle.dv_forms.specs.declared.stop.Stop.TheVariants as stop
+use Rattle.dv_forms.specs.declared.shape_fault.ShapeFault.{ShapeFault}
+use Rattle.dv_forms.specs.declared.shape_fault.ShapeFault.TheVariants as shape_fault
 use Rattle.dv_grammar.specs.declared.draft.Draft.{Draft}
 use Rattle.dv_reader.specs.Limits.{is_small, most_bytes_of}
 use Rattle.dv_reader.specs.Refusal.{IsTooLong, answers, keeps_version, are_named, are_known, are_pooled}
@@ -20,9 +20,9 @@ use Rattle.dv_questions.specs.Questions.{words, names, classes, pools, bodies}
 use Rattle.dv_grammar.specs.Shape.{script_at}
 
 -- the refusal of a reader that stops
-abbrev pub script_fault_of : Stop → ScriptFault
-script_fault_of stop.BadShape = BadShape
-script_fault_of stop.OutOfMemory = OutOfMemory
+abbrev pub script_fault_of : ShapeFault → ScriptFault
+script_fault_of shape_fault.BadShape = BadShape
+script_fault_of shape_fault.OutOfMemory = OutOfMemory
 
 -- there is a number, and it is from 1 to the last version
 abbrev pub is_of_language : Option ℕ → Bool

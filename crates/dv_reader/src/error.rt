@@ -1,7 +1,7 @@
 ghost use Rattle.std.specs.Prelude.{◌≡◌};
 ghost use Rattle.dv_reader.specs.Texts.{refusal_number, refusal_name, refusal_text};
 
-use dv_forms::stop::Stop;
+use dv_forms::shape_fault::ShapeFault;
 use thiserror::Error;
 
 /// Why a script is refused: the least of these of which the condition holds.
@@ -35,16 +35,16 @@ pub enum ScriptFault {
     BadBody,
 }
 
-impl From<Stop> for ScriptFault {
+impl From<ShapeFault> for ScriptFault {
     ghost use Rattle.std.specs.Prelude.{◌≡◌};
     ghost use Rattle.dv_reader.specs.Passes.{script_fault_of};
 
     ghost from_gives = { λ stop fault. fault ≡ script_fault_of stop };
 
-    fn from(stop: Stop) -> ScriptFault {
+    fn from(stop: ShapeFault) -> ScriptFault {
         match stop {
-            Stop::BadShape => ScriptFault::BadShape,
-            Stop::OutOfMemory => ScriptFault::OutOfMemory,
+            ShapeFault::BadShape => ScriptFault::BadShape,
+            ShapeFault::OutOfMemory => ScriptFault::OutOfMemory,
         }
     }
 }

@@ -65,7 +65,7 @@ where
 {
     let mut taken = 0_usize;
     loop {
-        driver.note(notes, engine.told())?;
+        driver.note(notes, engine.entries_logged())?;
         match engine.event(rt) {
             Ok(Next::Went) => {}
             Ok(Next::Drain(_)) => {
@@ -98,7 +98,7 @@ where
     ensures { OnOk result (HasTakenOne engine.old engine.new batches.now number) }
 {
     let batch = copy_of_batch(alloc, batches[number].as_slice())?;
-    match engine.drain(rt, batch) {
+    match engine.run_batch(rt, batch) {
         Ok(()) => Ok(()),
         Err(EngineFault::OutOfMemory) => Err(AllocError),
         Err(EngineFault::NotNow) => unreachable!(),

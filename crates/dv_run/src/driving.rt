@@ -45,7 +45,7 @@ pub trait Driver {
 
     /// Notes how many entries there are before the next event, or before the last batch. AllocError
     /// when out of memory.
-    fn note(&self, notes: &mut Self::Notes, told: usize) -> Result<(), AllocError>;
+    fn note(&self, notes: &mut Self::Notes, logged: usize) -> Result<(), AllocError>;
 
     /// Keeps what an engine has that has taken all posts. AllocError when out of memory.
     fn keep<'s, R, J>(
@@ -78,7 +78,7 @@ impl Driver for Reporting {
 
     fn start(&self, _alloc: Global) {}
 
-    fn note(&self, _notes: &mut (), _told: usize) -> Result<(), AllocError> {
+    fn note(&self, _notes: &mut (), _logged: usize) -> Result<(), AllocError> {
         Ok(())
     }
 
@@ -165,7 +165,7 @@ where
         → HasStranger engine.old.script.callers inbox.new) }
 {
     loop {
-        driver.note(notes, engine.told())?;
+        driver.note(notes, engine.entries_logged())?;
         match engine.event(rt) {
             Ok(Next::Went) => {}
             Ok(Next::Drain(most)) => {
@@ -201,7 +201,7 @@ where
         → HasStranger engine.old.script.callers inbox.new) }
 {
     let batch = take_up_to(alloc, inbox, most)?;
-    match engine.drain(rt, batch) {
+    match engine.run_batch(rt, batch) {
         Ok(()) => Ok(true),
         Err(EngineFault::Stranger) => Ok(false),
         Err(EngineFault::OutOfMemory) => Err(AllocError),
@@ -223,7 +223,7 @@ where
         → of c (joined engine.old.batches ++ rest) ≡ posts_of engine.old.script.callers c }
     ensures { OnOk result (HasTakenAll engine.old engine.new) }
 {
-    match engine.drain(rt, rest) {
+    match engine.run_batch(rt, rest) {
         Ok(()) => Ok(()),
         Err(EngineFault::OutOfMemory) => Err(AllocError),
         Err(EngineFault::NotNow) => unreachable!(),

@@ -1,13 +1,13 @@
 -- Whom a cancel reaches (Twisted: `Deferred.cancel`).
 use Rattle.std.specs.Prelude.{◌≡◌, ◌<◌, ◌↔◌, ◌+◌, ℕ, zero, suc, true, List, length, Option, Some, None, slice_get}
 use Rattle.std.specs.Option.{option_and_then, option_map_or}
-use Rattle.dv_store.specs.Fire.{with_guard}
+use Rattle.dv_store.specs.Fire.{with_swallows}
 use Rattle.dv_store.specs.Record.{changing}
 use Rattle.dv_store.specs.declared.record.Record.{Record}
 
 -- the next firing of a Deferred after its first is swallowed
-abbrev pub guard : {P K : Type 0} → ℕ → List (Record P K) → List (Record P K)
-guard id rs = changing id (with_guard true) rs
+abbrev pub swallow_next : {P K : Type 0} → ℕ → List (Record P K) → List (Record P K)
+swallow_next id rs = changing id (with_swallows true) rs
 
 -- the Deferred that one waits for; one of no record waits for none
 abbrev pub link : {P K : Type 0} → List (Record P K) → ℕ → Option ℕ

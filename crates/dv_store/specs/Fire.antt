@@ -30,15 +30,15 @@ abbrev pub with_firing : {P K : Type 0} → Value → Record P K → Record P K
 with_firing value r = record r { fired = true; value = value }
 
 -- the next firing after the first is swallowed, or not
-abbrev pub with_guard : {P K : Type 0} → Bool → Record P K → Record P K
-with_guard swallows r = record r { swallows = swallows }
+abbrev pub with_swallows : {P K : Type 0} → Bool → Record P K → Record P K
+with_swallows swallows r = record r { swallows = swallows }
 
--- a firing of a fired Deferred is swallowed, once, where the Deferred is guarded; else it is called already, and no
+-- a firing of a fired Deferred is swallowed, once, if it is one to be swallowed; else it is called already, and no
 -- record changes. Both are logged
 abbrev pub fire_again : {P K : Type 0} → ℕ → Record P K → State P K → Firing P K
 fire_again id r s =
     if r.swallows
-    then telling_firing (entry.Swallow id) (Ok Swallowed) (slice_set s.0 id (with_guard false r)) s
+    then telling_firing (entry.Swallow id) (Ok Swallowed) (slice_set s.0 id (with_swallows false r)) s
     else telling_firing (entry.Refuse id) (Err (fault.Refused (record {}))) s.0 s
 
 -- the Deferred that is found is fired already; an id of no record changes nothing

@@ -6,7 +6,7 @@ use Rattle.dv_value.specs.declared.value.Value.{Value}
 use Rattle.dv_journal.specs.Journal.{fits}
 use Rattle.dv_journal.specs.declared.entry.Entry.TheVariants.{Refuse}
 use Rattle.dv_journal.specs.declared.error.Stop.{Stop}
-use Rattle.dv_store.specs.Fire.{with_guard, fire}
+use Rattle.dv_store.specs.Fire.{with_swallows, fire}
 use Rattle.dv_store.specs.Callbacks.{step}
 use Rattle.dv_store.specs.Record.{changing}
 use Rattle.dv_store.specs.State.{State}
@@ -24,21 +24,21 @@ abbrev pub second_answer : {P K : Type 0} → ℕ → State P K → Result Fired
 second_answer id s = if fits s.1 (Refuse id) then Err (fault.Refused (record {})) else Err fault.Limit
 
 -- whether a further firing of a Deferred is swallowed
-abbrev pub is_guarded : {P K : Type 0} → ℕ → List (Record P K) → Bool
-is_guarded id rs = option_map_or (λ r. r.swallows) (slice_get rs id) false
+abbrev pub swallows_next : {P K : Type 0} → ℕ → List (Record P K) → Bool
+swallows_next id rs = option_map_or (λ r. r.swallows) (slice_get rs id) false
 
--- after a firing, a second one is refused unless the Deferred is guarded, and no record changes
+-- after a firing, a second one is refused unless it is to be swallowed, and no record changes
 abbrev pub SecondFiringChangesNothing : Type 0 → Type 0 → Type 0
 SecondFiringChangesNothing P K =
-    (id : ℕ) (first second : Value) (s : State P K) → id < length s.0 → is_guarded id s.0 ≡ false
+    (id : ℕ) (first second : Value) (s : State P K) → id < length s.0 → swallows_next id s.0 ≡ false
     → (fire id first s).0 ≡ Ok Set →
     ((fire id second (fire id first s).1).0 ≡ second_answer id (fire id first s).1)
     × ((fire id second (fire id first s).1).1.0 ≡ (fire id first s).1.0)
 
--- a firing that is swallowed changes nothing but that the Deferred is guarded no more
-abbrev pub SwallowedFiringEndsTheGuard : Type 0 → Type 0 → Type 0
-SwallowedFiringEndsTheGuard P K = (id : ℕ) (value : Value) (s : State P K) → (fire id value s).0 ≡ Ok Swallowed →
-    ((fire id value s).1.0 ≡ changing id (with_guard false) s.0) × (is_guarded id (fire id value s).1.0 ≡ false)
+-- a firing that is swallowed changes nothing but that the next one isn't swallowed
+abbrev pub OneFiringIsSwallowed : Type 0 → Type 0 → Type 0
+OneFiringIsSwallowed P K = (id : ℕ) (value : Value) (s : State P K) → (fire id value s).0 ≡ Ok Swallowed →
+    ((fire id value s).1.0 ≡ changing id (with_swallows false) s.0) × (swallows_next id (fire id value s).1.0 ≡ false)
 
 -- how many items of all Deferreds aren't used yet
 abbrev pub unused_items : {P K : Type 0} → List (Record P K) → ℕ

@@ -29,8 +29,8 @@ abbrev pub make : {P K : Type 0} → Option (List ℕ) → Option K → State P 
 make name canceller s = telling (New (length s.0) name) (length s.0) (s.0 ++ new_record name canceller ∷ []) s
 
 -- the name that a Deferred gets is logged; what is kept of it is its name at its making
-abbrev pub rename : {P K : Type 0} → ℕ → List ℕ → State P K → Told Unit P K
-rename id name s = telling (Name id (Some name)) tt s.0 s
+abbrev pub log_name : {P K : Type 0} → ℕ → List ℕ → State P K → Told Unit P K
+log_name id name s = telling (Name id (Some name)) tt s.0 s
 
 -- an item is added after those that aren't used yet
 abbrev pub with_item : {P K : Type 0} → Item P → Record P K → Record P K

@@ -1,7 +1,7 @@
 //! Laws of the definitions.
 
 ghost use Rattle.dv_store.specs.Cancelling.{ChainsEnd};
-ghost use Rattle.dv_store.specs.Laws.{SecondFiringChangesNothing, SwallowedFiringEndsTheGuard};
+ghost use Rattle.dv_store.specs.Laws.{SecondFiringChangesNothing, OneFiringIsSwallowed};
 ghost use Rattle.dv_store.specs.Laws.{StepUsesOneItemAtMost};
 
 use crate::sides::Sides;
@@ -12,8 +12,8 @@ pub fn second_firing_changes_nothing<P, K>()
 {}
 
 /// A cancel that asks for it has one further firing swallowed, and no more.
-pub fn swallowed_firing_ends_the_guard<P, K>()
-    ensures { SwallowedFiringEndsTheGuard P K }
+pub fn one_firing_is_swallowed<P, K>()
+    ensures { OneFiringIsSwallowed P K }
 {}
 
 /// A walk along those that are waited for ends at the first that doesn't wait, or comes back.

@@ -78,13 +78,13 @@ impl<P, K> Model for Store<P, K> {
 }
 
 impl<P: Sides + Drop, K: Drop> Store<P, K> {
-    ghost use Rattle.dv_store.specs.Record.{make, rename, append, changing, with_item};
+    ghost use Rattle.dv_store.specs.Record.{make, log_name, append, changing, with_item};
     ghost use Rattle.dv_store.specs.Record.{without_last};
-    ghost use Rattle.dv_store.specs.Fire.{fire, fire_again_found, with_firing, with_guard};
+    ghost use Rattle.dv_store.specs.Fire.{fire, fire_again_found, with_firing, with_swallows};
     ghost use Rattle.dv_store.specs.Fire.{FiresUnlessMemory};
     ghost use Rattle.dv_store.specs.Callbacks.{step, first_of, is_pair, run_found, without_first};
     ghost use Rattle.dv_store.specs.Callbacks.{hand_found, put, with_handed, with_result};
-    ghost use Rattle.dv_store.specs.Cancelling.{guard, link, end_of_chain};
+    ghost use Rattle.dv_store.specs.Cancelling.{swallow_next, link, end_of_chain};
     ghost use Rattle.dv_store.specs.Chaining.{put_deferred, with_wait, waiting, taking, value_at};
     ghost use Rattle.dv_store.specs.Pausing.{pauses_of, with_pauses, pause, unpause};
     ghost use Rattle.dv_store.specs.Pausing.{UnpausesUnlessMemory};
@@ -146,11 +146,10 @@ impl<P: Sides + Drop, K: Drop> Store<P, K> {
         Ok(id)
     }
 
-    /// Logs a name that a Deferred gets which was made already. Its record keeps the name of its
-    /// making.
-    pub fn rename(&self, journal: &mut Journal, id: DeferredId, name: Text) -> Result<(), Stop>
+    /// Logs one more name of a Deferred. Its record keeps the name of its making.
+    pub fn log_name(&self, journal: &mut Journal, id: DeferredId, name: Text) -> Result<(), Stop>
         ensures { UnlessMemory result (self.now, journal.old) (self.now, journal.new)
-            (rename id name (self.now, journal.old)) }
+            (log_name id name (self.now, journal.old)) }
     {
         journal.write(Entry::Name(id, Some(name)))
     }
@@ -201,8 +200,8 @@ impl<P: Sides + Drop, K: Drop> Store<P, K> {
 
     /// Fires a Deferred, with a failure too, and uses no pair (Twisted: `Deferred.callback` and
     /// `Deferred.errback`, which also run what they can). A Deferred that is fired already keeps
-    /// its value, and the new value is dropped: `refuse` is written, or `swallow` where it is
-    /// guarded, which it then is no more.
+    /// its value, and the new value is dropped: `refuse` is logged, or `swallow` if this firing is
+    /// one to be swallowed, which the next one isn't.
     pub fn fire(
         &mut self,
         journal: &mut Journal,
@@ -241,21 +240,22 @@ impl<P: Sides + Drop, K: Drop> Store<P, K> {
             return Err(Fault::Refused(AlreadyCalled));
         }
         journal.write(Entry::Swallow(id))?;
-        self.set_guard(id, false);
+        self.set_swallows(id, false);
         Ok(Fired::Swallowed)
     }
 
-    /// The next firing of a Deferred that is fired already is swallowed (Twisted: what
-    /// `Deferred.cancel` asks for where there is no canceller). It writes nothing.
-    pub fn guard(&mut self, id: DeferredId)
-        ensures { self.new ≡ guard id self.old }
+    /// The next firing of a Deferred that is fired already is swallowed (Twisted:
+    /// `_suppressAlreadyCalled`, which `Deferred.cancel` sets if there is no canceller). It logs
+    /// nothing.
+    pub fn swallow_next(&mut self, id: DeferredId)
+        ensures { self.new ≡ swallow_next id self.old }
     {
-        self.set_guard(id, true);
+        self.set_swallows(id, true);
     }
 
     /// Whether the next firing of a Deferred after its first is swallowed.
-    fn set_guard(&mut self, id: DeferredId, swallows: bool)
-        ensures { self.new ≡ changing id (with_guard swallows) self.old }
+    fn set_swallows(&mut self, id: DeferredId, swallows: bool)
+        ensures { self.new ≡ changing id (with_swallows swallows) self.old }
     {
         if let Some(record) = self.records.get_mut(id.number() as usize) {
             record.swallows = swallows;

@@ -218,24 +218,28 @@ pub fn fail_where<'s>(
 pub fn end_step<'s>(
     turn: &mut Turn<'s>,
     task: TaskId,
-    came: Performed<'s>,
+    performed: Performed<'s>,
 ) -> Result<(), AllocError>
     requires done { turn.old.performed ≡ Done }
-    ensures { OnOk result (turn.new ≡ after (page.step_ended task came.entry) turn.old) }
+    ensures { OnOk result (turn.new ≡ after (page.step_ended task performed.entry) turn.old) }
 {
     if has_ended(&turn.world, task) {
-        drop(came);
+        drop(performed);
         return Ok(());
     }
-    use_step(turn, task, came)
+    use_step(turn, task, performed)
 }
 
 /// A body of a task that hasn't ended has ended.
-fn use_step<'s>(turn: &mut Turn<'s>, task: TaskId, came: Performed<'s>) -> Result<(), AllocError>
+fn use_step<'s>(
+    turn: &mut Turn<'s>,
+    task: TaskId,
+    performed: Performed<'s>,
+) -> Result<(), AllocError>
     requires done { turn.old.performed ≡ Done }
-    ensures { OnOk result (turn.new ≡ after (page.after_step task came.entry) turn.old) }
+    ensures { OnOk result (turn.new ≡ after (page.after_step task performed.entry) turn.old) }
 {
-    match came {
+    match performed {
         Performed::Done => Ok(()),
         Performed::Gave(given) => fail_where(turn, task, given.into_failure(turn.alloc)?),
         Performed::Raised(failure) => end(turn, task, TaskEnd::Failed(failure)),

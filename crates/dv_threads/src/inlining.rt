@@ -46,13 +46,14 @@ pub fn end_action<'s>(
     turn: &mut Turn<'s>,
     inline: Inline,
     body: InlineBody<'s>,
-    came: Performed<'s>,
+    performed: Performed<'s>,
 ) -> Result<(), AllocError>
     requires done { turn.old.performed ≡ Done }
     ensures { OnOk result
-        (turn.new ≡ after (page.go_with inline (page.answer_of came.entry) body.entry) turn.old) }
+        (turn.new
+        ≡ after (page.go_with inline (page.answer_of performed.entry) body.entry) turn.old) }
 {
-    go_on_with(turn, inline, body, answer_of(came))
+    go_on_with(turn, inline, body, answer_of(performed))
 }
 
 /// A body goes on with an answer.
@@ -70,8 +71,8 @@ pub fn go_on_with<'s>(
     turn.stack.push(Frame::Inline(Inlining::Goes(inline, body)))
 }
 
-/// The pair by which a body awaits a Deferred has been added. Where what it awaits came meanwhile,
-/// it goes on; else it is parked.
+/// The pair by which a body awaits a Deferred has been added. If its result arrived meanwhile, the
+/// body goes on; else it is parked.
 pub fn end_await<'s>(
     turn: &mut Turn<'s>,
     inline: Inline,
@@ -82,29 +83,29 @@ pub fn end_await<'s>(
     ensures { OnOk result
         (turn.new ≡ after (page.after_awaiting inline awaited body.entry) turn.old) }
 {
-    let came = turn.world.end_await(inline.id, awaited, body)?;
-    go_on_where(turn, inline, came)
+    let resumed = turn.world.end_await(inline.id, awaited, body)?;
+    go_on_where(turn, inline, resumed)
 }
 
-/// What a body awaits has come: it goes on with that, inside the side that brings it.
+/// The result that a body awaits arrives: the body goes on with it, inside the side that brings it.
 pub fn resume<'s>(turn: &mut Turn<'s>, inline: Inline, input: Value) -> Result<(), AllocError>
     requires done { turn.old.performed ≡ Done }
     ensures { OnOk result (turn.new ≡ after (page.resume inline input) turn.old) }
 {
-    let came = turn.world.come_to_inline(inline.id, input);
-    go_on_where(turn, inline, came)
+    let resumed = turn.world.resume_inline(inline.id, input);
+    go_on_where(turn, inline, resumed)
 }
 
-/// A body goes on with what has reached it, where there is one.
+/// A body goes on with the result that arrived, if there is one.
 fn go_on_where<'s>(
     turn: &mut Turn<'s>,
     inline: Inline,
-    came: Option<(InlineBody<'s>, Value)>,
+    resumed: Option<(InlineBody<'s>, Value)>,
 ) -> Result<(), AllocError>
     requires done { turn.old.performed ≡ Done }
-    ensures { OnOk result (turn.new ≡ after (page.go_where inline came.entry) turn.old) }
+    ensures { OnOk result (turn.new ≡ after (page.go_where inline resumed.entry) turn.old) }
 {
-    match came {
+    match resumed {
         None => Ok(()),
         Some((body, answer)) => go_on_with(turn, inline, body, answer),
     }

@@ -21,13 +21,14 @@ use std::alloc::AllocError;
 pub fn end_maybe<'s>(
     turn: &mut Turn<'s>,
     purpose: Purpose<'s>,
-    came: Performed<'s>,
+    performed: Performed<'s>,
 ) -> Result<(), AllocError>
     requires bounded { Bounded turn.old.world }
     requires done { turn.old.performed ≡ Done }
-    ensures { OnOk result (turn.new ≡ after (page.deferred_of purpose.entry came.entry) turn.old) }
+    ensures { OnOk result
+        (turn.new ≡ after (page.deferred_of purpose.entry performed.entry) turn.old) }
 {
-    match came {
+    match performed {
         Performed::Done => make_with(turn, purpose, Value::Null),
         Performed::Gave(given) => make_with(turn, purpose, given.make(turn.alloc)?),
         Performed::Raised(failure) => make_with(turn, purpose, Value::Fault(failure)),
@@ -92,7 +93,7 @@ fn take_for<'s>(turn: &mut Turn<'s>, purpose: Purpose<'s>, id: DeferredId) -> Re
 {
     match begin_use(&mut turn.stack, purpose, id)? {
         None => Ok(()),
-        Some(name) => turn.world.rename(name.as_str(), id),
+        Some(name) => turn.world.bind_name(name.as_str(), id),
     }
 }
 

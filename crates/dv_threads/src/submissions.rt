@@ -17,8 +17,8 @@ use std::random::RandomSource;
 use std::sync::Wait;
 use std::thread::Threads;
 
-/// Who does a run's jobs, the pools that the script names, and how many jobs were submitted.
-/// Contracts see the works of these.
+/// The source that does a run's jobs, the pools that the script names, and how many jobs were
+/// submitted. Contracts see the works of these.
 #[derive(Drop)]
 pub struct Submissions<'s, J: JobSource> {
     source: J,

@@ -20,8 +20,8 @@ use Rattle.dv_forms.specs.declared.want.Want.TheVariants as want
 use Rattle.dv_forms.specs.declared.want.Leaf.{Leaf}
 use Rattle.dv_forms.specs.declared.want.Keyed.{Keyed}
 use Rattle.dv_forms.specs.declared.want.Keyed.TheVariants as keyed
-use Rattle.dv_forms.specs.declared.want.Call.{Call}
-use Rattle.dv_forms.specs.declared.want.Pair.{Pair}
+use Rattle.dv_forms.specs.declared.want.CallKind.{CallKind}
+use Rattle.dv_forms.specs.declared.want.PairKind.{PairKind}
 use Rattle.dv_forms.specs.declared.want.Item.{Item}
 use Rattle.dv_why.specs.declared.question.Question.{Question}
 use Rattle.dv_why.specs.declared.question.Question.TheVariants as question
@@ -95,7 +95,7 @@ last_suits q w d h suit =
 pub leaf_suits : (q : Question) (l : Leaf) (d : Data) → suits q (want.Leaf l) d ≡ true → AllSuit q (want.Leaf l) d
 leaf_suits q l d suit = all_suit (want.Leaf l) d suit (λ n v e wants is. cc) (λ key v e wants is. cc)
 
-pub word_suits : (q : Question) (c : Call) (d : Data) → suits q (want.Word c) d ≡ true → AllSuit q (want.Word c) d
+pub word_suits : (q : Question) (c : CallKind) (d : Data) → suits q (want.Word c) d ≡ true → AllSuit q (want.Word c) d
 word_suits q c d suit = all_suit (want.Word c) d suit (λ n v e wants is. cc) (λ key v e wants is. cc)
 
 pub object_suits : (q : Question) (k : Keyed) (d : Data) → suits q (want.Keyed k) d ≡ true
@@ -389,7 +389,7 @@ no_parts_suit q (want.Other k) d h suit = all_suit (want.Other k) d suit (λ n v
 -- the arms of a match
 
 pub has_items : (w : Want) → (w ≡ want.Value)
-    ⊎ (((x : Call) × (w ≡ want.Call x)) ⊎ (((x : Pair) × (w ≡ want.Pair x)) ⊎ ((x : Item) × (w ≡ want.Array x))))
+    ⊎ (((x : CallKind) × (w ≡ want.Call x)) ⊎ (((x : PairKind) × (w ≡ want.Pair x)) ⊎ ((x : Item) × (w ≡ want.Array x))))
     → HasItems w
 has_items w (inl e) = rw e tt
 has_items w (inr (inl e)) = rw (e.1) tt
@@ -397,7 +397,7 @@ has_items w (inr (inr (inl e))) = rw (e.1) tt
 has_items w (inr (inr (inr e))) = rw (e.1) tt
 
 pub has_no_parts : (w : Want) → ((x : Leaf) × (w ≡ want.Leaf x))
-    ⊎ (((x : Call) × (w ≡ want.Word x)) ⊎ ((x : Keyed) × (w ≡ want.Other x))) → HasNoParts w
+    ⊎ (((x : CallKind) × (w ≡ want.Word x)) ⊎ ((x : Keyed) × (w ≡ want.Other x))) → HasNoParts w
 has_no_parts w (inl e) = rw (e.1) tt
 has_no_parts w (inr (inl e)) = rw (e.1) tt
 has_no_parts w (inr (inr e)) = rw (e.1) tt
@@ -405,8 +405,8 @@ has_no_parts w (inr (inr e)) = rw (e.1) tt
 -- where no object is asked for, there are no others
 pub no_keys : (q : Question) (w : Want) (d : Data)
     → ((x : Leaf) × (w ≡ want.Leaf x))
-    ⊎ ((w ≡ want.Value) ⊎ (((x : Call) × (w ≡ want.Call x)) ⊎ (((x : Pair) × (w ≡ want.Pair x))
-    ⊎ (((x : Item) × (w ≡ want.Array x)) ⊎ (((x : Call) × (w ≡ want.Word x)) ⊎ ((x : Keyed) × (w ≡ want.Other x)))))))
+    ⊎ ((w ≡ want.Value) ⊎ (((x : CallKind) × (w ≡ want.Call x)) ⊎ (((x : PairKind) × (w ≡ want.Pair x))
+    ⊎ (((x : Item) × (w ≡ want.Array x)) ⊎ (((x : CallKind) × (w ≡ want.Word x)) ⊎ ((x : Keyed) × (w ≡ want.Other x)))))))
     → OthersOf q w d
 no_keys q w d (inl e) = rw (e.1) tt
 no_keys q w d (inr (inl e)) = rw e tt

@@ -3,7 +3,7 @@ use Rattle.std.proofs.Common.{◌≡◌, ◌≢◌, ℕ, zero, suc, ◌-◌, ◌
 use Rattle.std.proofs.Common.{ap, arith}
 use Rattle.serde_json.specs.Data.{Data}
 use Rattle.dv_forms.specs.declared.want.Want.{Want}
-use Rattle.dv_forms.specs.declared.want.Call.{Call}
+use Rattle.dv_forms.specs.declared.want.CallKind.{CallKind}
 use Rattle.dv_why.specs.Places.{argument_want, call_want, nth}
 
 -- the item of a number below the length
@@ -19,6 +19,6 @@ nth_past (w ∷ ws) zero h = absurd (omega arith)
 nth_past (w ∷ ws) (suc n) h = nth_past ws n (omega arith)
 
 -- a part of a call after its word is an argument
-pub after_word : (c : Call) (d : Data) (n : ℕ) → n ≢ 0 → argument_want c d (n - 1) ≡ call_want c d n
+pub after_word : (c : CallKind) (d : Data) (n : ℕ) → n ≢ 0 → argument_want c d (n - 1) ≡ call_want c d n
 after_word c d zero h = absurd (h refl)
 after_word c d (suc n) h = let e : suc n - 1 ≡ n = omega arith in ap (λ (k : ℕ). argument_want c d k) e

@@ -17,7 +17,7 @@ use Rattle.dv_grammar.specs.Grammar.{IsListFlag, fires_on_callback, fires_on_err
 use Rattle.dv_grammar.specs.Grammar.{gathers_errors, IsBound, no_bound, a_bound}
 use Rattle.dv_forms.specs.declared.want.Want.{Want}
 use Rattle.dv_forms.specs.declared.want.Want.TheVariants as want
-use Rattle.dv_forms.specs.declared.want.Call.{Call}
+use Rattle.dv_forms.specs.declared.want.CallKind.{CallKind}
 use Rattle.dv_forms.specs.declared.want.Item.{Item}
 use Rattle.dv_why.specs.declared.question.Question.TheVariants as question
 use Rattle.dv_forms.specs.Wants.{item_want}
@@ -219,7 +219,7 @@ more_args v n w ws (item d ds) h = record { a = d; rest = ds; items = refl; fine
 -- ---- calls
 
 -- a word that may stand there, and its arguments
-pub record IsOpenCall (v n : ℕ) (c : Call) (d : Data) : Type 0 where
+pub record IsOpenCall (v n : ℕ) (c : CallKind) (d : Data) : Type 0 where
   pub word : List ℕ
   pub rest : Items
   pub whole : d ≡ array (item (string word) rest)
@@ -228,7 +228,7 @@ pub record IsOpenCall (v n : ℕ) (c : Call) (d : Data) : Type 0 where
   pub form : wants_of c word (count rest) ≡ Some wants
   pub args : AreFine v n wants rest
 
-pub open_call : (v n : ℕ) (c : Call) (d : Data) → fits v (want.Call c) d ≡ true
+pub open_call : (v n : ℕ) (c : CallKind) (d : Data) → fits v (want.Call c) d ≡ true
     → ((k : ℕ) (u : Want) (e : Data) → part_want (want.Call c) d k ≡ Some u → at k d ≡ Some e → IsFine v n u e)
     → IsOpenCall v n c d
 unfolding call_at

@@ -5,8 +5,8 @@ use Rattle.std.specs.Prelude.{⊤}
 use Rattle.std.specs.List.{list_all}
 use Rattle.std.proofs.lemmas.Bool.{and_parts, eqb-true}
 use Rattle.std.proofs.lemmas.Slice.Eq.{bytes_eq-Decides}
-use Rattle.dv_forms.specs.declared.want.Call.{Call}
-use Rattle.dv_forms.specs.declared.want.Call.TheVariants as call_of
+use Rattle.dv_forms.specs.declared.want.CallKind.{CallKind}
+use Rattle.dv_forms.specs.declared.want.CallKind.TheVariants as call_of
 use Rattle.dv_forms.specs.declared.want.Want.{Want}
 use Rattle.dv_forms.specs.Words.{Form, or_else, own_forms, narrower, wants_in, wants_of, has_word, has_word_at}
 use Rattle.dv_forms.specs.Words.{may_stand, named_in}
@@ -50,13 +50,13 @@ in_many (form ∷ forms) word given wants e =
       | inr h ↦ in_many forms word given wants h
     ]
 
-at_many : (o : Option Call) (word : List ℕ) (given : ℕ) (wants : List Want)
+at_many : (o : Option CallKind) (word : List ℕ) (given : ℕ) (wants : List Want)
     → option_and_then (λ n. wants_in (own_forms n) word given) o ≡ Some wants → length wants ≡ given
 at_many None word given wants e = cc
 at_many (Some c) word given wants e = in_many (own_forms c) word given wants e
 
 -- so many arguments are asked for as are given
-pub wants_many : (c : Call) (word : List ℕ) (given : ℕ) (wants : List Want) → wants_of c word given ≡ Some wants
+pub wants_many : (c : CallKind) (word : List ℕ) (given : ℕ) (wants : List Want) → wants_of c word given ≡ Some wants
     → length wants ≡ given
 wants_many c word given wants e =
     either_found (wants_in (own_forms c) word given) _ wants e (λ h. in_many (own_forms c) word given wants h)
@@ -88,7 +88,7 @@ has_last (form ∷ forms) all word v h =
     (rw ((and_parts (bytes_eq form.word word) (nat_le form.since v) k).0, parts.0) refl))
     (λ k. or_second (bytes_eq form.word word && nat_le form.since LAST_VERSION) (has_last forms parts.1 word v k))
 
-own_last : (c : Call) → all_last (own_forms c) ≡ true
+own_last : (c : CallKind) → all_last (own_forms c) ≡ true
 own_last call_of.Event = refl
 own_last call_of.Action = refl
 own_last call_of.Statement = refl
@@ -96,13 +96,13 @@ own_last call_of.End = refl
 own_last call_of.Leaving = refl
 own_last call_of.Work = refl
 
-at_last : (o : Option Call) (word : List ℕ) (v : ℕ) → has_word_at o word v ≡ true
+at_last : (o : Option CallKind) (word : List ℕ) (v : ℕ) → has_word_at o word v ≡ true
     → has_word_at o word LAST_VERSION ≡ true
 at_last None word v h = h
 at_last (Some c) word v h = has_last (own_forms c) (own_last c) word v h
 
 -- a word of some version is one of the last
-pub last_too : (c : Call) (word : List ℕ) (v : ℕ) → may_stand c word v ≡ true → may_stand c word LAST_VERSION ≡ true
+pub last_too : (c : CallKind) (word : List ℕ) (v : ℕ) → may_stand c word v ≡ true → may_stand c word LAST_VERSION ≡ true
 last_too c word v h =
     or_split (has_word (own_forms c) word v) (has_word_at (narrower c) word v) h
     (λ k. or_first (has_word_at (narrower c) word LAST_VERSION) (has_last (own_forms c) (own_last c) word v k))

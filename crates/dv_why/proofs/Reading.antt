@@ -64,7 +64,7 @@ use Rattle.dv_forms.specs.declared.versions.TheConstants.{BODIES_SINCE, COMMENTS
 use Rattle.dv_forms.specs.declared.want.Want.{Want}
 use Rattle.dv_forms.specs.declared.want.Want.TheVariants as want
 use Rattle.dv_forms.specs.declared.want.Leaf.TheVariants as leaf
-use Rattle.dv_forms.specs.declared.want.Call.TheVariants as call_of
+use Rattle.dv_forms.specs.declared.want.CallKind.TheVariants as call_of
 use Rattle.dv_forms.specs.declared.want.Keyed.{Keyed}
 use Rattle.dv_forms.specs.declared.want.Keyed.TheVariants as keyed
 use Rattle.dv_forms.specs.declared.want.Item.{Item}

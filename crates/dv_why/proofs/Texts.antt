@@ -6,7 +6,7 @@ use Rattle.serde_json.specs.Find.{as_str, as_array, get, get_item}
 use Rattle.dv_forms.specs.declared.want.Want.{Want}
 use Rattle.dv_forms.specs.declared.want.Want.TheVariants as want
 use Rattle.dv_forms.specs.declared.want.Leaf.{Leaf}
-use Rattle.dv_forms.specs.declared.want.Call.{Call}
+use Rattle.dv_forms.specs.declared.want.CallKind.{CallKind}
 use Rattle.dv_forms.specs.declared.want.Leaf.TheVariants as leaf_of
 use Rattle.dv_forms.specs.declared.want.Object.TheVariants as object_of
 use Rattle.dv_forms.specs.declared.want.Keyed.{Keyed}
@@ -27,7 +27,7 @@ use Rattle.dv_why.proofs.Parts.{both, here, part, value}
 -- a text or an object that answers one question well answers the other well
 pub record Tells (q : Question) (a : Asked) : Type 0 where
   pub leaf : (l : Leaf) (x : List ℕ) → suits q (want.Leaf l) (string x) ≡ true → a.of_leaf l x ≡ true
-  pub word : (c : Call) (x : List ℕ) → suits q (want.Word c) (string x) ≡ true → a.of_word c x ≡ true
+  pub word : (c : CallKind) (x : List ℕ) → suits q (want.Word c) (string x) ≡ true → a.of_word c x ≡ true
   pub object : (k : Keyed) (d : Data) → suits q (want.Keyed k) d ≡ true → a.of_object k ≡ true
   pub body : (since : ℕ) (x : List ℕ) → suits q (want.Keyed (keyed.Body since)) (string x) ≡ true
       → a.of_leaf (leaf_of.Found object_of.Body) x ≡ true
@@ -45,7 +45,7 @@ leaf_good t l (number n) h = refl
 leaf_good t l (array ds) h = refl
 leaf_good t l (object ms) h = refl
 
-word_good : {q : Question} {a : Asked} → Tells q a → (c : Call) (d : Data) → AllSuit q (want.Word c) d
+word_good : {q : Question} {a : Asked} → Tells q a → (c : CallKind) (d : Data) → AllSuit q (want.Word c) d
     → if_there (a.of_word c) (as_str d) ≡ true
 word_good t c (string x) h = t.word c x (here h)
 word_good t c null h = refl
@@ -89,14 +89,14 @@ arguments_good f None ds k = refl
 arguments_good f (Some ws) ds k = ones_good f ws ds k
 
 parts_good : {q : Question} {a : Asked} → Tells q a → (f : Want → Data → Bool) → Goods q f
-    → (c : Call) (x : List ℕ) (ds : Items) → AllSuit q (want.Call c) (array (item (string x) ds))
+    → (c : CallKind) (x : List ℕ) (ds : Items) → AllSuit q (want.Call c) (array (item (string x) ds))
     → word_suits a f c ds x ≡ true
 unfolding call_at
 parts_good t f k c x ds h =
     both (t.word c x (here (part 0 h refl refl)))
     (arguments_good f (wants_of c x (count ds)) ds (λ n v e wants is. k v e (part (suc n) h wants is)))
 
-call_good : {q : Question} {a : Asked} → Tells q a → (f : Want → Data → Bool) → Goods q f → (c : Call) (ds : Items)
+call_good : {q : Question} {a : Asked} → Tells q a → (f : Want → Data → Bool) → Goods q f → (c : CallKind) (ds : Items)
     → AllSuit q (want.Call c) (array ds) → call_suits a f c ds ≡ true
 call_good t f k c no_items h = refl
 call_good t f k c (item (string x) ds) h = parts_good t f k c x ds h

@@ -15,7 +15,7 @@ use Rattle.dv_questions.specs.Questions.{has_object, is_body, is_known, is_named
 use Rattle.dv_forms.specs.declared.want.Leaf.{Leaf}
 use Rattle.dv_forms.specs.declared.want.Leaf.TheVariants as leaf
 use Rattle.dv_forms.specs.declared.want.Object.TheVariants as of_object
-use Rattle.dv_forms.specs.declared.want.Call.{Call}
+use Rattle.dv_forms.specs.declared.want.CallKind.{CallKind}
 use Rattle.dv_forms.specs.declared.want.Keyed.{Keyed}
 use Rattle.dv_forms.specs.declared.want.Keyed.TheVariants as keyed
 use Rattle.dv_forms.specs.declared.want.Want.{Want}
@@ -50,12 +50,12 @@ value_fits (object ms) = false
 
 -- the first part of a call is no word that may stand there, which is wrong itself, or one that has a form with so many
 -- arguments
-abbrev pub begins_well : Call → Option (List ℕ) → ℕ → Bool
+abbrev pub begins_well : CallKind → Option (List ℕ) → ℕ → Bool
 begins_well c None given = true
 begins_well c (Some word) given = not (may_stand c word LAST_VERSION) || is_some (wants_of c word given)
 
 -- a call, its parts apart: an array of one part at least
-abbrev pub parts_fit : Call → Items → Bool
+abbrev pub parts_fit : CallKind → Items → Bool
 parts_fit c no_items = false
 parts_fit c (item d ds) = begins_well c (as_str d) (count ds)
 
@@ -69,7 +69,7 @@ array_fits fit None = false
 array_fits fit (Some ds) = fit ds
 
 -- the word of a call: one that may stand there in this version
-abbrev pub word_fits : ℕ → Call → Option (List ℕ) → Bool
+abbrev pub word_fits : ℕ → CallKind → Option (List ℕ) → Bool
 word_fits version c None = false
 word_fits version c (Some word) = may_stand c word version
 

@@ -8,7 +8,7 @@ use Rattle.dv_why.specs.declared.misfit.Step.{Step}
 use Rattle.dv_why.specs.declared.misfit.Step.TheVariants as step
 use Rattle.dv_forms.specs.declared.want.Want.{Want}
 use Rattle.dv_forms.specs.declared.want.Want.TheVariants as want
-use Rattle.dv_forms.specs.declared.want.Call.{Call}
+use Rattle.dv_forms.specs.declared.want.CallKind.{CallKind}
 use Rattle.dv_forms.specs.Wants.{item_want, key_want, member_want, pair_wants}
 use Rattle.dv_forms.specs.Words.{wants_of}
 use Rattle.dv_questions.specs.Asking.{count}
@@ -48,12 +48,12 @@ nth (w ∷ ws) zero = Some w
 nth (w ∷ ws) (suc n) = nth ws n
 
 -- what the place of an argument asks for
-abbrev pub argument_want : Call → Data → ℕ → Option Want
+abbrev pub argument_want : CallKind → Data → ℕ → Option Want
 argument_want c d n =
     option_and_then (λ call. option_and_then (λ ws. nth ws n) (wants_of c call.0 (count call.1))) (call_at d)
 
 -- what the place of a part of a call asks for: first its word
-abbrev pub call_want : Call → Data → ℕ → Option Want
+abbrev pub call_want : CallKind → Data → ℕ → Option Want
 call_want c d zero = Some (want.Word c)
 call_want c d (suc n) = argument_want c d n
 

@@ -1,7 +1,7 @@
 use dv_forms::leaf::call as call_in;
 use dv_forms::limits::most_nodes;
 use dv_forms::versions::{BODIES_SINCE, COMMENTS_SINCE, FAILURES_SINCE, MARKS_SINCE};
-use dv_forms::want::{Call, Item, Keyed, Leaf, Object, Pair, Want};
+use dv_forms::want::{CallKind, Item, Keyed, Leaf, Object, PairKind, Want};
 use dv_forms::words::{
     ACTION_FORMS, END_FORMS, EVENT_FORMS, Form, LEAVING_FORMS, STATEMENT_FORMS, WORK_FORMS,
     narrower,
@@ -146,14 +146,14 @@ fn statement_text(version: u32) -> &'static str {
     }
 }
 
-fn call_text(version: u32, call: Call) -> &'static str {
+fn call_text(version: u32, call: CallKind) -> &'static str {
     match call {
-        Call::Event => "an event: an array of a word and its arguments",
-        Call::Action => "an action: an array of a word and its arguments",
-        Call::Statement => statement_text(version),
-        Call::End => end_text(version),
-        Call::Leaving => leaving_text(version),
-        Call::Work =>
+        CallKind::Event => "an event: an array of a word and its arguments",
+        CallKind::Action => "an action: an array of a word and its arguments",
+        CallKind::Statement => statement_text(version),
+        CallKind::End => end_text(version),
+        CallKind::Leaving => leaving_text(version),
+        CallKind::Work =>
             "a work: an array of one of the words value, raise and sum, and its arguments",
     }
 }
@@ -182,22 +182,22 @@ fn statement_word_text(version: u32) -> &'static str {
     }
 }
 
-fn word_text(version: u32, call: Call) -> &'static str {
+fn word_text(version: u32, call: CallKind) -> &'static str {
     match call {
-        Call::Event => "the word of an action, advance or drain",
-        Call::Action => "the word of an action",
-        Call::Statement => statement_word_text(version),
-        Call::End => end_word_text(version),
-        Call::Leaving => leaving_word_text(version),
-        Call::Work => "the word of a work: value, raise or sum",
+        CallKind::Event => "the word of an action, advance or drain",
+        CallKind::Action => "the word of an action",
+        CallKind::Statement => statement_word_text(version),
+        CallKind::End => end_word_text(version),
+        CallKind::Leaving => leaving_word_text(version),
+        CallKind::Work => "the word of a work: value, raise or sum",
     }
 }
 
-fn pair_text(pair: Pair) -> &'static str {
+fn pair_text(pair: PairKind) -> &'static str {
     match pair {
-        Pair::Declaration => "a class: an array [NAME,PARENT] of two texts",
-        Pair::Pool => "a pool: an array [NAME,WORKERS] of a text and an integer from 0 to 16",
-        Pair::Body => "a named body: an array [NAME,BODY] of a text and a body",
+        PairKind::Declaration => "a class: an array [NAME,PARENT] of two texts",
+        PairKind::Pool => "a pool: an array [NAME,WORKERS] of a text and an integer from 0 to 16",
+        PairKind::Body => "a named body: an array [NAME,BODY] of a text and a body",
     }
 }
 
@@ -367,19 +367,19 @@ fn shown_in<W: Copy>(forms: &'static [Form<W>], word: &str) -> Option<Shown> {
     found
 }
 
-fn own_shown(call: Call, word: &str) -> Option<Shown> {
+fn own_shown(call: CallKind, word: &str) -> Option<Shown> {
     match call {
-        Call::Event => shown_in(&EVENT_FORMS, word),
-        Call::Action => shown_in(&ACTION_FORMS, word),
-        Call::Statement => shown_in(&STATEMENT_FORMS, word),
-        Call::End => shown_in(&END_FORMS, word),
-        Call::Leaving => shown_in(&LEAVING_FORMS, word),
-        Call::Work => shown_in(&WORK_FORMS, word),
+        CallKind::Event => shown_in(&EVENT_FORMS, word),
+        CallKind::Action => shown_in(&ACTION_FORMS, word),
+        CallKind::Statement => shown_in(&STATEMENT_FORMS, word),
+        CallKind::End => shown_in(&END_FORMS, word),
+        CallKind::Leaving => shown_in(&LEAVING_FORMS, word),
+        CallKind::Work => shown_in(&WORK_FORMS, word),
     }
 }
 
 /// How the forms of a word are shown that may stand at such a place.
-fn shown_of(call: Call, word: &str) -> Option<Shown> {
+fn shown_of(call: CallKind, word: &str) -> Option<Shown> {
     if let Some(shown) = own_shown(call, word) {
         return Some(shown);
     }
@@ -390,7 +390,7 @@ fn shown_of(call: Call, word: &str) -> Option<Shown> {
 }
 
 /// The forms of the word with which a call begins, if it is one that may stand there.
-fn forms_in(call: Call, json: &Json) -> Option<Shown> {
+fn forms_in(call: CallKind, json: &Json) -> Option<Shown> {
     match call_in(json) {
         Ok((word, _)) => shown_of(call, word),
         Err(_) => None,

@@ -13,7 +13,7 @@ ghost use Rattle.dv_forms.specs.Wants.{key_want, member_want};
 
 use crate::misfit::{Misfit, Step};
 use crate::question::{Question, suits};
-use dv_forms::want::{Call, Keyed, Want, member_want};
+use dv_forms::want::{CallKind, Keyed, Want, member_want};
 use dv_forms::words::wants_of;
 use serde_json::{Map, Value as Json};
 use std::alloc::{AllocError, Global};
@@ -49,7 +49,7 @@ fn call_in(json: &Json) -> Option<(&str, &[Json])>
 
 /// What the place of this argument of a call asks for.
 #[tactic(auto, using(dv_questions::proofs::Counting::count_items))]
-fn argument_of(call: Call, json: &Json, number: usize) -> Option<Want>
+fn argument_of(call: CallKind, json: &Json, number: usize) -> Option<Want>
     ensures { result ≡ argument_want call (view json.now) number }
 {
     let (word, arguments) = call_in(json)?;
@@ -58,7 +58,7 @@ fn argument_of(call: Call, json: &Json, number: usize) -> Option<Want>
 }
 
 /// What the place of this part of a call asks for: first its word.
-fn part_of_call(call: Call, json: &Json, number: usize) -> Option<Want>
+fn part_of_call(call: CallKind, json: &Json, number: usize) -> Option<Want>
     ensures { result ≡ call_want call (view json.now) number }
 {
     if number == 0 {

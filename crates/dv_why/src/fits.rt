@@ -9,7 +9,7 @@ ghost use Rattle.dv_why.specs.Fits.{word_fits, is_empty, is_of_class, has_keys, 
 use crate::leaf::leaf_fits;
 use dv_forms::failure::is_first_error;
 use dv_forms::versions::{BODIES_SINCE, LAST_VERSION};
-use dv_forms::want::{Call, Keyed, Want};
+use dv_forms::want::{CallKind, Keyed, Want};
 use dv_forms::words::{may_stand, wants_of};
 use dv_questions::question::object_stands;
 use serde_json::Value as Json;
@@ -24,7 +24,7 @@ fn value_fits(json: &Json) -> bool
     }
 }
 
-fn begins_well(call: Call, first: &Json, given: usize) -> bool
+fn begins_well(call: CallKind, first: &Json, given: usize) -> bool
     ensures { result ≡ begins_well call (as_str (view first.now)) given }
 {
     match first.as_str() {
@@ -36,7 +36,7 @@ fn begins_well(call: Call, first: &Json, given: usize) -> bool
 }
 
 #[tactic(auto, using(dv_questions::proofs::Counting::count_items))]
-fn parts_fit(call: Call, parts: &[Json]) -> bool
+fn parts_fit(call: CallKind, parts: &[Json]) -> bool
     ensures { result ≡ parts_fit call (items_view parts.now) }
 {
     match parts.split_first() {
@@ -45,7 +45,7 @@ fn parts_fit(call: Call, parts: &[Json]) -> bool
     }
 }
 
-fn call_fits(call: Call, json: &Json) -> bool
+fn call_fits(call: CallKind, json: &Json) -> bool
     ensures { result ≡ array_fits (parts_fit call) (as_array (view json.now)) }
 {
     match json {
@@ -70,7 +70,7 @@ fn is_pair(json: &Json) -> bool
     }
 }
 
-fn word_fits(version: u32, call: Call, json: &Json) -> bool
+fn word_fits(version: u32, call: CallKind, json: &Json) -> bool
     ensures { result ≡ word_fits version call (as_str (view json.now)) }
 {
     match json.as_str() {

@@ -33,7 +33,7 @@ pub data Becomes (w : World) : World → Type 0 where
 abbrev pub TasksEndOnce : Type 0
 TasksEndOnce = (w u : World) (t : ℕ) (end : TaskEnd) → end_of t w ≡ Some end → Becomes w u → end_of t u ≡ Some end
 
--- and where it is to end again, nothing is logged, and nobody is answered
+-- and where it is to end again, nothing is logged, and none is returned
 abbrev pub EndedTasksAreLeftAlone : Type 0
 EndedTasksAreLeftAlone =
     (w : World) (t : ℕ) (end again : TaskEnd) → end_of t w ≡ Some end → end_task t again w ≡ ([], w)

@@ -13,7 +13,7 @@ use Rattle.dv_journal.specs.declared.entry.Entry.{Entry}
 use Rattle.dv_journal.specs.declared.entry.Entry.TheVariants as entry
 use Rattle.dv_journal.specs.declared.error.Stop.{Stop}
 use Rattle.dv_clock.specs.Clock.{Upcoming, next_call, has_run, new_due}
-use Rattle.dv_clock.specs.Due.{coming_due}
+use Rattle.dv_clock.specs.Due.{entry_when_due}
 use Rattle.dv_clock.specs.Turns.{turn_of}
 use Rattle.dv_clock.specs.declared.call.Call.{Call}
 use Rattle.dv_clock.specs.declared.call.CallState.{CallState}
@@ -26,12 +26,12 @@ use Rattle.dv_script.specs.declared.body.Body.{Body}
 use Rattle.dv_script.specs.declared.script.Cooperator.{Cooperator as Settings}
 use Rattle.dv_script.specs.declared.script.NamedBody.{NamedBody}
 use Rattle.dv_script.specs.declared.work.Work.{Work}
-use Rattle.dv_prims.specs.DeferredList.{Gather, came}
+use Rattle.dv_prims.specs.DeferredList.{Gather, child_fired}
 use Rattle.dv_prims.specs.Queue.{Queue, may_put, receiver, put_to, got_from, withdrawn}
 use Rattle.dv_prims.specs.Tokens.{Semaphore, is_unheld, asked, released, forgotten}
-use Rattle.dv_prims.specs.declared.gather.Came.{Came}
+use Rattle.dv_prims.specs.declared.gather.AfterChild.{AfterChild}
 use Rattle.dv_store.specs.Callbacks as callbacks
-use Rattle.dv_store.specs.Cancelling.{guard, end_of_chain}
+use Rattle.dv_store.specs.Cancelling.{swallow_next, end_of_chain}
 use Rattle.dv_store.specs.Chaining as chaining
 use Rattle.dv_store.specs.Fire as firing
 use Rattle.dv_store.specs.Pausing as pausing
@@ -49,7 +49,7 @@ use Rattle.dv_store.specs.declared.store.Step.TheVariants.{Nothing}
 use Rattle.dv_objects.specs.Cooperator.{Cooperator, with_step, with_pause, with_resume, with_end, with_waiting}
 use Rattle.dv_objects.specs.Cooperator.{result_of, unended, wants_tick, idle_tick}
 use Rattle.dv_inline.specs.Position.{Position}
-use Rattle.dv_objects.specs.Inlines.{come_to, end_adding, now_waiting, awaited_by}
+use Rattle.dv_objects.specs.Inlines.{resume_at, end_adding, now_waiting, awaited_by}
 use Rattle.dv_objects.specs.Looping.{next_due, with_turn, with_stopped, with_ended}
 use Rattle.dv_objects.specs.Names.{number_of}
 use Rattle.dv_objects.specs.Objects.{Objects, no_objects, naming_where, with_list, with_new_call, with_delivery}
@@ -194,18 +194,18 @@ fire d value w =
     let told = firing.fire d value (state_of w) in fired told.0 told.1 w
 
 -- once its firing is logged, the next one is swallowed; a firing that can't be logged stops the run
-abbrev pub guarded : ℕ → Result Fired (Fault AlreadyCalled) → State Pair Canceller → World → World
-guarded d (Ok Set) s w = with_state (guard d s.0, s.1) w
-guarded d (Ok Swallowed) s w = with_state s w
-guarded d (Err (fault.Refused already)) s w = with_state s w
-guarded d (Err fault.Limit) s w = with_stop (with_state s w)
-guarded d (Err fault.OutOfMemory) s w = with_stop (with_state s w)
+abbrev pub fired_then_swallows : ℕ → Result Fired (Fault AlreadyCalled) → State Pair Canceller → World → World
+fired_then_swallows d (Ok Set) s w = with_state (swallow_next d s.0, s.1) w
+fired_then_swallows d (Ok Swallowed) s w = with_state s w
+fired_then_swallows d (Err (fault.Refused already)) s w = with_state s w
+fired_then_swallows d (Err fault.Limit) s w = with_stop (with_state s w)
+fired_then_swallows d (Err fault.OutOfMemory) s w = with_stop (with_state s w)
 
 -- d is fired since it is cancelled and has no canceller, and not settled yet
-unfoldable pub fire_guarded : ℕ → World → World
-fire_guarded d w =
+unfoldable pub fire_then_swallow : ℕ → World → World
+fire_then_swallow d w =
     if w.stopped then w else
-    let told = firing.fire d cancelled (state_of w) in guarded d told.0 told.1 w
+    let told = firing.fire d cancelled (state_of w) in fired_then_swallows d told.0 told.1 w
 
 -- whether a Deferred may still be fired
 abbrev pub is_unfired : ℕ → World → Bool
@@ -234,11 +234,11 @@ abbrev pub end_reached : Option ℕ → Records → Reached
 end_reached None rs = reached.Nothing
 end_reached (Some end) rs = record_reached end (slice_get rs end)
 
--- whom a cancel of d reaches: the first on the walk along those that are waited for that doesn't wait
+-- what a cancel of d reaches: the first on the walk along those that are waited for that doesn't wait
 abbrev pub reached_from : ℕ → Records → Reached
 reached_from d rs = end_reached (end_of_chain d rs) rs
 
--- a cancel of d is logged, and then reaches whom it reaches; one that can't be logged stops the run
+-- a cancel of d is logged, and then reaches what it reaches; one that can't be logged stops the run
 unfoldable pub cancel : ℕ → World → Reached × World
 cancel d w =
     if w.stopped then (reached.Nothing, w) else
@@ -284,15 +284,15 @@ release l w = release_found l (slice_get w.objects.semaphores l) w
 abbrev pub forget : ℕ → ℕ → World → World
 forget l d w = arrange (λ objects. lock_changed l (forgotten d) (slice_get objects.semaphores l) objects) w
 
--- what is answered, unless the run has stopped
+-- what is returned, unless the run has stopped
 abbrev pub unless_stopped : {A : Type 0} → Option A → World → Option A × World
 unless_stopped answer w = (if w.stopped then None else answer, w)
 
--- that a declared body runs is logged, and the body is answered
+-- that a declared body runs is logged, and the body is returned
 abbrev pub begin_body : NamedBody → World → Option Body × World
 begin_body declared w = unless_stopped (Some declared.body) (tell (entry.Body declared.name) w)
 
--- a value is put into the queue that is found, where it may be, and who gets it is answered
+-- a value is put into the queue that is found, if it may be, and the waiter that gets it is returned
 abbrev pub put_into_found : ℕ → Value → Option Queue → World → Option (ℕ × Value) × World
 put_into_found k value None w = (None, w)
 put_into_found k value (Some q) w =
@@ -303,7 +303,7 @@ put_into_found k value (Some q) w =
 abbrev pub put_into : ℕ → Value → World → Option (ℕ × Value) × World
 put_into k value w = put_into_found k value (slice_get w.objects.queues k) w
 
--- d asks the queue that is found for a value, and which it gets is answered, if it doesn't wait
+-- d asks the queue that is found for a value, and the one that it gets is returned, if it doesn't wait
 abbrev pub get_from_found : ℕ → ℕ → Option Queue → World → Option Value × World
 get_from_found k d None w = (None, w)
 get_from_found k d (Some q) w =
@@ -317,15 +317,15 @@ get_from k d w = get_from_found k d (slice_get w.objects.queues k) w
 abbrev pub withdraw : ℕ → ℕ → World → World
 withdraw k d w = arrange (λ objects. queue_changed k (withdrawn d) (slice_get objects.queues k) objects) w
 
--- a child reports to the list that is found, and what follows is answered; an id of no list fires nothing
-abbrev pub came_to_found : ℕ → ℕ → Value → Option Gather → World → Came × World
-came_to_found l i v None w = (record { fire = None; pass = v }, w)
-came_to_found l i v (Some g) w = ((came i v g).0, arrange (with_list l (came i v g).1) w)
+-- a child of the list that is found fired, and what follows is returned; an id of no list fires nothing
+abbrev pub child_fired_found : ℕ → ℕ → Value → Option Gather → World → AfterChild × World
+child_fired_found l i v None w = (record { fire = None; pass = v }, w)
+child_fired_found l i v (Some g) w = ((child_fired i v g).0, arrange (with_list l (child_fired i v g).1) w)
 
--- a child reports to a list with its value, which isn't logged; in a stopped run none does
-unfoldable pub came_to : ℕ → ℕ → Value → World → Came × World
-came_to l i v w =
-    if w.stopped then (record { fire = None; pass = v }, w) else came_to_found l i v (slice_get w.objects.lists l) w
+-- a child of a list fired with this value, which isn't logged; a run that has stopped ignores it
+unfoldable pub child_fired_in : ℕ → ℕ → Value → World → AfterChild × World
+child_fired_in l i v w =
+    if w.stopped then (record { fire = None; pass = v }, w) else child_fired_found l i v (slice_get w.objects.lists l) w
 
 -- a job is submitted to a pool, whose result is for d, and logged; one more than a run has isn't, and one that can't be
 -- logged stops the run
@@ -355,16 +355,16 @@ call_later name delay body w =
     let due = w.objects.clock.time + min delay MOST_DELAY in
     aside (entry.LaterCall name due) (with_new_call name due body) w
 
--- a timer of d is started, whose time comes so much later than now, and no later than calls are delayed by
+-- a timer of d is started, which expires so much later than now, and no later than calls are delayed by
 abbrev pub start_timer : ℕ → ℕ → World → World
 start_timer d delay w =
     let due = w.objects.clock.time + min delay MOST_DELAY in aside (entry.LaterTimeout d due) (with_timer d due) w
 
--- whether the time of a timer has come
+-- whether a timer has expired
 abbrev pub has_timed_out : ℕ → World → Bool
 has_timed_out t w = has_run t w.objects.clock.calls
 
--- a timer ends, where its time hasn't come, which isn't logged
+-- a timer ends, if it hasn't expired, which isn't logged
 abbrev pub end_timer : ℕ → World → World
 end_timer t w = arrange (with_ended_call t call_state.Dropped) w
 
@@ -374,13 +374,13 @@ advance ticks w =
     let time = min (w.objects.clock.time + ticks) MOST_TICKS in aside (entry.Advance time) (with_time time) w
 
 -- what runs next, where something is due, has been called from now on
-abbrev pub come_due_found : Option Upcoming → World → Option Due × World
-come_due_found None w = (None, w)
-come_due_found (Some call) w =
-    unless_stopped (Some call.what) (aside (coming_due call.what) (with_ended_call call.number call_state.Called) w)
+abbrev pub take_due_found : Option Upcoming → World → Option Due × World
+take_due_found None w = (None, w)
+take_due_found (Some call) w =
+    unless_stopped (Some call.what) (aside (entry_when_due call.what) (with_ended_call call.number call_state.Called) w)
 
-abbrev pub come_due : World → Option Due × World
-come_due w = come_due_found (next_call w.objects.clock) w
+abbrev pub take_due : World → Option Due × World
+take_due w = take_due_found (next_call w.objects.clock) w
 
 -- what a cancelling or a resetting of a call raises that was called
 abbrev pub was_called : Failure
@@ -489,7 +489,7 @@ abbrev pub await_task : ℕ → ℕ → World → World
 await_task t d w =
     task_told (λ x. entry.WhenDone x.name d) (with_waiting t d) (slice_get w.objects.cooperator.tasks t) w
 
--- the task that is found takes the next step, and is answered with its next body
+-- the task that is found takes the next step, and is returned with its next body
 abbrev pub step_taken : ℕ → Option Task → World → Option (ℕ × Option Body) × World
 step_taken t None w = (None, w)
 step_taken t (Some x) w =
@@ -503,11 +503,11 @@ turn_taken (Some t) w = step_taken t (slice_get w.objects.cooperator.tasks t) w
 abbrev pub take_step : World → Option (ℕ × Option Body) × World
 take_step w = turn_taken (turn_of w.objects.cooperator.turns) w
 
--- who is answered, unless the run has stopped
+-- these, unless the run has stopped
 abbrev pub all_unless_stopped : List ℕ → World → List ℕ × World
 all_unless_stopped ds w = (if w.stopped then [] else ds, w)
 
--- the task that is found ends, and who waits for that is answered
+-- the task that is found ends, and the waiters for that are returned
 abbrev pub task_ended : ℕ → TaskEnd → Option Task → World → List ℕ × World
 task_ended t end None w = ([], w)
 task_ended t end (Some x) w =
@@ -551,14 +551,14 @@ add_inline w = arrange with_new_inline w
 abbrev pub begin_await : Inline → ℕ → World → World
 begin_await i e w = aside (entry.Await i.of e) (inlining (now_waiting i.id Adding)) w
 
--- what an inline body awaits has come; the body is answered with it, where it goes on now
-unfoldable pub come_to_inline : ℕ → Value → World → Option (Position × Value) × World
-come_to_inline i v w =
-    if w.stopped then (None, w) else let t = come_to i v w.objects.inlines in
+-- the result that an inline body awaits arrives; the body is returned with it, if it goes on now
+unfoldable pub resume_inline : ℕ → Value → World → Option (Position × Value) × World
+resume_inline i v w =
+    if w.stopped then (None, w) else let t = resume_at i v w.objects.inlines in
     (t.0, arrange (inlining (λ inlines. t.1)) w)
 
--- the pair has been added by which an inline body awaits e; the body is answered with what came meanwhile, or else it
--- awaits from now on
+-- the pair has been added by which an inline body awaits e; the body is returned with what arrived meanwhile, or else
+-- it awaits from now on
 unfoldable pub end_await : ℕ → ℕ → Position → World → Option (Position × Value) × World
 end_await i e p w =
     if w.stopped then (None, w) else let t = end_adding i e p w.objects.inlines in

@@ -21,7 +21,7 @@ use dv_objects::stopping::stopped;
 use dv_objects::task::Task;
 use dv_objects::works::Works;
 use dv_prims::error::{NotHeld, Overflow};
-use dv_prims::gather::{Came, Flags, Gather};
+use dv_prims::gather::{AfterChild, Flags, Gather};
 use dv_prims::list_id::ListId;
 use dv_prims::lock_id::LockId;
 use dv_prims::queue::Queue;
@@ -151,10 +151,10 @@ impl<'s> Model for World<'s> {
 impl<'s> World<'s> {
     ghost use Rattle.dv_store.specs.Pausing.{pauses_of};
     ghost use Rattle.dv_world.specs.World.{first_world, value_of, deferred_at, step, put};
-    ghost use Rattle.dv_world.specs.World.{put_deferred, append, make, fire, fire_guarded};
+    ghost use Rattle.dv_world.specs.World.{put_deferred, append, make, fire, fire_then_swallow};
     ghost use Rattle.dv_world.specs.World.{is_unfired, reached_from, cancel, pause, unpause, aside};
     ghost use Rattle.dv_world.specs.World.{arrange, tell, ask, release, forget, put_into, get_from};
-    ghost use Rattle.dv_world.specs.World.{withdraw, came_to, with_stop};
+    ghost use Rattle.dv_world.specs.World.{withdraw, child_fired_in, with_stop};
     ghost use Rattle.dv_objects.specs.Objects.{naming, naming_where, with_new_list, with_new_lock};
     ghost use Rattle.dv_objects.specs.Objects.{with_added_lock, with_new_queue, with_added_queue};
     ghost use Rattle.dv_objects.specs.Names.{number_of};
@@ -214,8 +214,8 @@ impl<'s> World<'s> {
         self.stopped
     }
 
-    /// How many entries the journal has.
-    pub fn told(&self) -> usize
+    /// How many entries are logged.
+    pub fn entries_logged(&self) -> usize
         ensures { result ≡ length self.now.journal.entries }
     {
         self.journal.entries().len()
@@ -369,9 +369,9 @@ impl<'s> World<'s> {
 
     /// Fires a Deferred with CancelledError, has its next firing swallowed, and doesn't settle. It
     /// is for one that is cancelled, unfired, and without a canceller (Twisted: `Deferred.cancel`).
-    #[tactic(auto, unfolding(crate::specs::World::fire_guarded))]
-    pub fn fire_guarded(&mut self, id: DeferredId) -> Result<(), AllocError>
-        ensures { OnOk result (self.new ≡ fire_guarded id self.old) }
+    #[tactic(auto, unfolding(crate::specs::World::fire_then_swallow))]
+    pub fn fire_then_swallow(&mut self, id: DeferredId) -> Result<(), AllocError>
+        ensures { OnOk result (self.new ≡ fire_then_swallow id self.old) }
     {
         if self.stopped {
             return Ok(());
@@ -379,7 +379,7 @@ impl<'s> World<'s> {
         let value = cancelled(self.alloc)?;
         match self.store.fire(&mut self.journal, id, value) {
             Ok(Fired::Set) => {
-                self.store.guard(id);
+                self.store.swallow_next(id);
                 Ok(())
             }
             Ok(Fired::Swallowed) | Err(Fault::Refused(AlreadyCalled)) => Ok(()),
@@ -401,8 +401,8 @@ impl<'s> World<'s> {
         }
     }
 
-    /// Tells of a cancel, and answers whom it reaches: the first Deferred that doesn't wait, on the
-    /// walk along those that are waited for, where there is one and it is unfired.
+    /// Logs a cancel, and returns what it reaches: the first Deferred that doesn't wait, on the
+    /// walk along those that are waited for, if there is one and it is unfired.
     #[tactic(auto, unfolding(crate::specs::World::cancel))]
     pub fn cancel(&mut self, id: DeferredId) -> Result<Reached<'s>, AllocError>
         ensures { IfOk result (λ reached. (reached, self.new) ≡ cancel id self.old) }
@@ -416,7 +416,7 @@ impl<'s> World<'s> {
         }
     }
 
-    /// Whom a cancel reaches.
+    /// What a cancel reaches.
     fn reached(&self, id: DeferredId) -> Result<Reached<'s>, AllocError>
         ensures { IfOk result (λ reached. reached ≡ reached_from id self.now.records) }
     {
@@ -481,7 +481,7 @@ impl<'s> World<'s> {
 
     /// Binds a name to a Deferred that was made already, and logs it.
     #[tactic(auto, unfolding(crate::specs::World::aside))]
-    pub fn rename(&mut self, name: &str, id: DeferredId) -> Result<(), AllocError>
+    pub fn bind_name(&mut self, name: &str, id: DeferredId) -> Result<(), AllocError>
         ensures { OnOk result (self.new ≡ aside (entry.Name id (Some name.now))
             (naming name.now id) self.old) }
     {
@@ -489,7 +489,7 @@ impl<'s> World<'s> {
             return Ok(());
         }
         let shown = Text::of(self.alloc, name)?;
-        match self.store.rename(&mut self.journal, id, shown) {
+        match self.store.log_name(&mut self.journal, id, shown) {
             Ok(()) => self.names.bind(name, id),
             Err(stop) => self.stopped_by(stop, ()),
         }
@@ -732,23 +732,29 @@ impl<'s> World<'s> {
         Ok(list)
     }
 
-    /// Reports a child to its DeferredList with its value, and returns what follows.
-    #[tactic(auto, unfolding(crate::specs::World::came_to, crate::specs::World::arrange))]
-    pub fn come(&mut self, list: ListId, place: u32, value: Value) -> Result<Came, AllocError>
-        ensures { IfOk result (λ came. (came, self.new) ≡ came_to list place value self.old) }
+    /// A child of a DeferredList fired with this value. Returns what follows.
+    #[tactic(auto, unfolding(crate::specs::World::child_fired_in, crate::specs::World::arrange))]
+    pub fn child_fired(
+        &mut self,
+        list: ListId,
+        place: u32,
+        value: Value,
+    ) -> Result<AfterChild, AllocError>
+        ensures { IfOk result
+            (λ after. (after, self.new) ≡ child_fired_in list place value self.old) }
     {
         if self.stopped {
-            return Ok(Came {
+            return Ok(AfterChild {
                 fire: None,
                 pass: value,
             });
         }
         match self.lists.get_mut(list.number()) {
-            None => Ok(Came {
+            None => Ok(AfterChild {
                 fire: None,
                 pass: value,
             }),
-            Some(gather) => gather.came(place, value),
+            Some(gather) => gather.child_fired(place, value),
         }
     }
 
@@ -763,7 +769,8 @@ impl<'s> World<'s> {
         Ok(otherwise)
     }
 
-    /// Drops a world. Who does it by this call needs no proof of its own of what a world holds.
+    /// Drops a world. Prefer this to an implicit drop: the caller's crate then doesn't re-prove how
+    /// its fields are dropped.
     pub fn discard(self) {
         drop(self);
     }

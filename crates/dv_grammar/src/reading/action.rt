@@ -20,7 +20,7 @@ use dv_forms::arguments::{
 use dv_forms::leaf::{
     array, boolean, call, five, number, one_or_two, text, three, two, two_or_three,
 };
-use dv_forms::stop::Stop;
+use dv_forms::shape_fault::ShapeFault;
 use dv_forms::words::ActionWord;
 use dv_script::action::Action;
 use dv_script::body::Body;
@@ -46,12 +46,17 @@ pub enum WithBody {
 /// be cleared here for every action.
 #[cycle(shape)]
 #[tactic(auto, unfolding(crate::specs::Shape::action_by, crate::specs::Shape::action_of))]
-pub fn action(alloc: Global, classes: &Classes, levels: u32, json: &Json) -> Result<Action, Stop>
+pub fn action(
+    alloc: Global,
+    classes: &Classes,
+    levels: u32,
+    json: &Json,
+) -> Result<Action, ShapeFault>
     ensures { Reads result (action_at classes.now levels (view json.now)) }
 {
     let (word, arguments) = call(json)?;
     let Some(word) = ActionWord::named(word) else {
-        return Err(Stop::BadShape);
+        return Err(ShapeFault::BadShape);
     };
     match word {
         ActionWord::Deferred => deferred(alloc, classes, levels, arguments),
@@ -115,7 +120,7 @@ pub fn actions(
     classes: &Classes,
     levels: u32,
     items: &[Json],
-) -> Result<Items<Action>, Stop>
+) -> Result<Items<Action>, ShapeFault>
     ensures { Reads result (each (action_at classes.now levels) (items_view items.now)) }
 {
     let mut actions = Items::with_capacity(alloc, items.len())?;
@@ -133,7 +138,7 @@ fn deferred(
     classes: &Classes,
     levels: u32,
     arguments: &[Json],
-) -> Result<Action, Stop>
+) -> Result<Action, ShapeFault>
     ensures { Reads result (new_deferred_of (body_at classes.now levels)
         (items_view arguments.now)) }
 {
@@ -151,7 +156,7 @@ fn add_timeout(
     classes: &Classes,
     levels: u32,
     arguments: &[Json],
-) -> Result<Action, Stop>
+) -> Result<Action, ShapeFault>
     ensures { Reads result (timeout_of (body_at classes.now levels) (items_view arguments.now)) }
 {
     let (name, delay, json) = two_or_three(arguments)?;
@@ -168,7 +173,7 @@ fn maybe_body(
     classes: &Classes,
     levels: u32,
     json: Option<&Json>,
-) -> Result<Option<Body>, Stop>
+) -> Result<Option<Body>, ShapeFault>
     ensures { Reads result (if_there (body_at classes.now levels)
         (option_map (λ d. view d.now) json.entry)) }
 {
@@ -188,7 +193,7 @@ fn with_body(
     levels: u32,
     word: WithBody,
     arguments: &[Json],
-) -> Result<Action, Stop>
+) -> Result<Action, ShapeFault>
     ensures { Reads result (two_of text_at (body_at classes.now levels) (with_body word)
         (items_view arguments.now)) }
 {
@@ -211,7 +216,7 @@ fn add_callbacks(
     classes: &Classes,
     levels: u32,
     arguments: &[Json],
-) -> Result<Action, Stop>
+) -> Result<Action, ShapeFault>
     ensures { Reads result (three_of text_at (body_at classes.now levels)
         (body_at classes.now levels) Action.AddCallbacks (items_view arguments.now)) }
 {
@@ -230,7 +235,7 @@ fn run_with(
     classes: &Classes,
     levels: u32,
     arguments: &[Json],
-) -> Result<Action, Stop>
+) -> Result<Action, ShapeFault>
     ensures { Reads result (three_of text_at text_at (body_at classes.now levels) Action.RunWith
         (items_view arguments.now)) }
 {
@@ -244,7 +249,12 @@ fn run_with(
 #[cycle(shape)]
 #[inline(never)]
 #[tactic(auto, unfolding(dv_forms::specs::Parts::triple))]
-fn later(alloc: Global, classes: &Classes, levels: u32, arguments: &[Json]) -> Result<Action, Stop>
+fn later(
+    alloc: Global,
+    classes: &Classes,
+    levels: u32,
+    arguments: &[Json],
+) -> Result<Action, ShapeFault>
     ensures { Reads result (three_of text_at (number_at 0 MOST_DELAY)
         (body_at classes.now levels) Action.Later (items_view arguments.now)) }
 {
@@ -263,7 +273,7 @@ fn loop_of(
     classes: &Classes,
     levels: u32,
     arguments: &[Json],
-) -> Result<Action, Stop>
+) -> Result<Action, ShapeFault>
     ensures { Reads result (loop_of (body_at classes.now levels) (items_view arguments.now)) }
 {
     let (name, deferred, interval, at_once, json) = five(arguments)?;
@@ -283,7 +293,7 @@ fn cooperate(
     classes: &Classes,
     levels: u32,
     arguments: &[Json],
-) -> Result<Action, Stop>
+) -> Result<Action, ShapeFault>
     ensures { Reads result (two_of text_at (list_at (body_at classes.now levels)) Action.Cooperate
         (items_view arguments.now)) }
 {
@@ -296,7 +306,12 @@ fn cooperate(
 #[cycle(shape)]
 #[inline(never)]
 #[tactic(auto, unfolding(dv_forms::specs::Parts::pair))]
-fn inline(alloc: Global, classes: &Classes, levels: u32, arguments: &[Json]) -> Result<Action, Stop>
+fn inline(
+    alloc: Global,
+    classes: &Classes,
+    levels: u32,
+    arguments: &[Json],
+) -> Result<Action, ShapeFault>
     ensures { Reads result (two_of text_at (list_at (statement_at classes.now levels)) Action.Inline
         (items_view arguments.now)) }
 {
@@ -307,7 +322,7 @@ fn inline(alloc: Global, classes: &Classes, levels: u32, arguments: &[Json]) -> 
 }
 
 #[inline(never)]
-fn callback(alloc: Global, classes: &Classes, arguments: &[Json]) -> Result<Action, Stop>
+fn callback(alloc: Global, classes: &Classes, arguments: &[Json]) -> Result<Action, ShapeFault>
     ensures { Reads result (two_of text_at (value_at classes.now) Action.Callback
         (items_view arguments.now)) }
 {
@@ -316,7 +331,7 @@ fn callback(alloc: Global, classes: &Classes, arguments: &[Json]) -> Result<Acti
 }
 
 #[inline(never)]
-fn errback(alloc: Global, classes: &Classes, arguments: &[Json]) -> Result<Action, Stop>
+fn errback(alloc: Global, classes: &Classes, arguments: &[Json]) -> Result<Action, ShapeFault>
     ensures { Reads result (three_of text_at (class_at classes.now) text_at Action.Errback
         (items_view arguments.now)) }
 {
@@ -325,7 +340,7 @@ fn errback(alloc: Global, classes: &Classes, arguments: &[Json]) -> Result<Actio
 }
 
 #[inline(never)]
-fn chain(alloc: Global, arguments: &[Json]) -> Result<Action, Stop>
+fn chain(alloc: Global, arguments: &[Json]) -> Result<Action, ShapeFault>
     ensures { Reads result (two_of text_at text_at Action.Chain (items_view arguments.now)) }
 {
     let (name, other) = two_texts(alloc, arguments)?;
@@ -333,35 +348,35 @@ fn chain(alloc: Global, arguments: &[Json]) -> Result<Action, Stop>
 }
 
 #[inline(never)]
-fn pause(alloc: Global, arguments: &[Json]) -> Result<Action, Stop>
+fn pause(alloc: Global, arguments: &[Json]) -> Result<Action, ShapeFault>
     ensures { Reads result (one_of text_at Action.Pause (items_view arguments.now)) }
 {
     Ok(Action::Pause(one_text(alloc, arguments)?))
 }
 
 #[inline(never)]
-fn unpause(alloc: Global, arguments: &[Json]) -> Result<Action, Stop>
+fn unpause(alloc: Global, arguments: &[Json]) -> Result<Action, ShapeFault>
     ensures { Reads result (one_of text_at Action.Unpause (items_view arguments.now)) }
 {
     Ok(Action::Unpause(one_text(alloc, arguments)?))
 }
 
 #[inline(never)]
-fn cancel(alloc: Global, arguments: &[Json]) -> Result<Action, Stop>
+fn cancel(alloc: Global, arguments: &[Json]) -> Result<Action, ShapeFault>
     ensures { Reads result (one_of text_at Action.Cancel (items_view arguments.now)) }
 {
     Ok(Action::Cancel(one_text(alloc, arguments)?))
 }
 
 #[inline(never)]
-fn note(alloc: Global, arguments: &[Json]) -> Result<Action, Stop>
+fn note(alloc: Global, arguments: &[Json]) -> Result<Action, ShapeFault>
     ensures { Reads result (one_of text_at Action.Note (items_view arguments.now)) }
 {
     Ok(Action::Note(one_text(alloc, arguments)?))
 }
 
 #[inline(never)]
-fn list(alloc: Global, arguments: &[Json]) -> Result<Action, Stop>
+fn list(alloc: Global, arguments: &[Json]) -> Result<Action, ShapeFault>
     ensures { Reads result (three_of text_at (list_at text_at)
         (list_at list_flag_at) Action.List (items_view arguments.now)) }
 {
@@ -370,7 +385,7 @@ fn list(alloc: Global, arguments: &[Json]) -> Result<Action, Stop>
 }
 
 #[inline(never)]
-fn gather(alloc: Global, arguments: &[Json]) -> Result<Action, Stop>
+fn gather(alloc: Global, arguments: &[Json]) -> Result<Action, ShapeFault>
     ensures { Reads result (three_of text_at (list_at text_at)
         (list_at gather_flag_at) Action.Gather (items_view arguments.now)) }
 {
@@ -379,14 +394,14 @@ fn gather(alloc: Global, arguments: &[Json]) -> Result<Action, Stop>
 }
 
 #[inline(never)]
-fn lock(alloc: Global, arguments: &[Json]) -> Result<Action, Stop>
+fn lock(alloc: Global, arguments: &[Json]) -> Result<Action, ShapeFault>
     ensures { Reads result (one_of text_at Action.Lock (items_view arguments.now)) }
 {
     Ok(Action::Lock(one_text(alloc, arguments)?))
 }
 
 #[inline(never)]
-fn semaphore(alloc: Global, arguments: &[Json]) -> Result<Action, Stop>
+fn semaphore(alloc: Global, arguments: &[Json]) -> Result<Action, ShapeFault>
     ensures { Reads result
         (two_of text_at (number_at 1 MOST_PLACES) Action.Semaphore (items_view arguments.now)) }
 {
@@ -395,7 +410,7 @@ fn semaphore(alloc: Global, arguments: &[Json]) -> Result<Action, Stop>
 }
 
 #[inline(never)]
-fn acquire(alloc: Global, arguments: &[Json]) -> Result<Action, Stop>
+fn acquire(alloc: Global, arguments: &[Json]) -> Result<Action, ShapeFault>
     ensures { Reads result (two_of text_at text_at Action.Acquire (items_view arguments.now)) }
 {
     let (name, lock) = two_texts(alloc, arguments)?;
@@ -403,14 +418,14 @@ fn acquire(alloc: Global, arguments: &[Json]) -> Result<Action, Stop>
 }
 
 #[inline(never)]
-fn release(alloc: Global, arguments: &[Json]) -> Result<Action, Stop>
+fn release(alloc: Global, arguments: &[Json]) -> Result<Action, ShapeFault>
     ensures { Reads result (one_of text_at Action.Release (items_view arguments.now)) }
 {
     Ok(Action::Release(one_text(alloc, arguments)?))
 }
 
 #[inline(never)]
-fn queue(alloc: Global, arguments: &[Json]) -> Result<Action, Stop>
+fn queue(alloc: Global, arguments: &[Json]) -> Result<Action, ShapeFault>
     ensures { Reads result
         (three_of text_at bound_at bound_at Action.Queue (items_view arguments.now)) }
 {
@@ -419,7 +434,7 @@ fn queue(alloc: Global, arguments: &[Json]) -> Result<Action, Stop>
 }
 
 #[inline(never)]
-fn put(alloc: Global, classes: &Classes, arguments: &[Json]) -> Result<Action, Stop>
+fn put(alloc: Global, classes: &Classes, arguments: &[Json]) -> Result<Action, ShapeFault>
     ensures { Reads result (two_of text_at (value_at classes.now) Action.Put
         (items_view arguments.now)) }
 {
@@ -428,7 +443,7 @@ fn put(alloc: Global, classes: &Classes, arguments: &[Json]) -> Result<Action, S
 }
 
 #[inline(never)]
-fn get(alloc: Global, arguments: &[Json]) -> Result<Action, Stop>
+fn get(alloc: Global, arguments: &[Json]) -> Result<Action, ShapeFault>
     ensures { Reads result (two_of text_at text_at Action.Get (items_view arguments.now)) }
 {
     let (name, queue) = two_texts(alloc, arguments)?;
@@ -436,14 +451,14 @@ fn get(alloc: Global, arguments: &[Json]) -> Result<Action, Stop>
 }
 
 #[inline(never)]
-fn cancel_call(alloc: Global, arguments: &[Json]) -> Result<Action, Stop>
+fn cancel_call(alloc: Global, arguments: &[Json]) -> Result<Action, ShapeFault>
     ensures { Reads result (one_of text_at Action.CancelCall (items_view arguments.now)) }
 {
     Ok(Action::CancelCall(one_text(alloc, arguments)?))
 }
 
 #[inline(never)]
-fn reset_call(alloc: Global, arguments: &[Json]) -> Result<Action, Stop>
+fn reset_call(alloc: Global, arguments: &[Json]) -> Result<Action, ShapeFault>
     ensures { Reads result
         (two_of text_at (number_at 0 MOST_DELAY) Action.ResetCall (items_view arguments.now)) }
 {
@@ -452,7 +467,7 @@ fn reset_call(alloc: Global, arguments: &[Json]) -> Result<Action, Stop>
 }
 
 #[inline(never)]
-fn delay_call(alloc: Global, arguments: &[Json]) -> Result<Action, Stop>
+fn delay_call(alloc: Global, arguments: &[Json]) -> Result<Action, ShapeFault>
     ensures { Reads result
         (two_of text_at (number_at 0 MOST_DELAY) Action.DelayCall (items_view arguments.now)) }
 {
@@ -461,14 +476,14 @@ fn delay_call(alloc: Global, arguments: &[Json]) -> Result<Action, Stop>
 }
 
 #[inline(never)]
-fn stop_loop(alloc: Global, arguments: &[Json]) -> Result<Action, Stop>
+fn stop_loop(alloc: Global, arguments: &[Json]) -> Result<Action, ShapeFault>
     ensures { Reads result (one_of text_at Action.StopLoop (items_view arguments.now)) }
 {
     Ok(Action::StopLoop(one_text(alloc, arguments)?))
 }
 
 #[inline(never)]
-fn when_done(alloc: Global, arguments: &[Json]) -> Result<Action, Stop>
+fn when_done(alloc: Global, arguments: &[Json]) -> Result<Action, ShapeFault>
     ensures { Reads result (two_of text_at text_at Action.WhenDone (items_view arguments.now)) }
 {
     let (name, task) = two_texts(alloc, arguments)?;
@@ -476,28 +491,28 @@ fn when_done(alloc: Global, arguments: &[Json]) -> Result<Action, Stop>
 }
 
 #[inline(never)]
-fn pause_task(alloc: Global, arguments: &[Json]) -> Result<Action, Stop>
+fn pause_task(alloc: Global, arguments: &[Json]) -> Result<Action, ShapeFault>
     ensures { Reads result (one_of text_at Action.PauseTask (items_view arguments.now)) }
 {
     Ok(Action::PauseTask(one_text(alloc, arguments)?))
 }
 
 #[inline(never)]
-fn stop_task(alloc: Global, arguments: &[Json]) -> Result<Action, Stop>
+fn stop_task(alloc: Global, arguments: &[Json]) -> Result<Action, ShapeFault>
     ensures { Reads result (one_of text_at Action.StopTask (items_view arguments.now)) }
 {
     Ok(Action::StopTask(one_text(alloc, arguments)?))
 }
 
 #[inline(never)]
-fn resume_task(alloc: Global, arguments: &[Json]) -> Result<Action, Stop>
+fn resume_task(alloc: Global, arguments: &[Json]) -> Result<Action, ShapeFault>
     ensures { Reads result (one_of text_at Action.ResumeTask (items_view arguments.now)) }
 {
     Ok(Action::ResumeTask(one_text(alloc, arguments)?))
 }
 
 #[inline(never)]
-fn units(arguments: &[Json]) -> Result<Action, Stop>
+fn units(arguments: &[Json]) -> Result<Action, ShapeFault>
     ensures { Reads result
         (one_of (number_at 1 MOST_UNITS) Action.Units (items_view arguments.now)) }
 {

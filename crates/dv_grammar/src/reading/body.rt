@@ -10,7 +10,7 @@ ghost use Rattle.dv_script.specs.declared.body.End.TheVariants.{Pass};
 use crate::reading::action::actions;
 use crate::reading::end::end;
 use dv_forms::leaf::{array, fields};
-use dv_forms::stop::Stop;
+use dv_forms::shape_fault::ShapeFault;
 use dv_script::action::Action;
 use dv_script::body::{Body, End};
 use dv_value::classes::Classes;
@@ -22,7 +22,7 @@ use std::alloc::Global;
 /// A body, in which bodies and statements nest to `levels`, itself among them: a name nests none.
 #[cycle(shape)]
 #[tactic(auto, unfolding(crate::specs::Shape::readers, crate::specs::Shape::body_by))]
-pub fn body(alloc: Global, classes: &Classes, levels: u32, json: &Json) -> Result<Body, Stop>
+pub fn body(alloc: Global, classes: &Classes, levels: u32, json: &Json) -> Result<Body, ShapeFault>
     ensures { Reads result (body_at classes.now levels (view json.now)) }
 {
     if levels == 0 {
@@ -37,7 +37,12 @@ pub fn body(alloc: Global, classes: &Classes, levels: u32, json: &Json) -> Resul
 /// An object that is a body, in which bodies and statements nest to `levels`.
 #[cycle(shape)]
 #[tactic(auto, unfolding(crate::specs::Shape::keyed_body_by))]
-fn keyed_body(alloc: Global, classes: &Classes, levels: u32, json: &Json) -> Result<Body, Stop>
+fn keyed_body(
+    alloc: Global,
+    classes: &Classes,
+    levels: u32,
+    json: &Json,
+) -> Result<Body, ShapeFault>
     ensures { Reads result (keyed_body_by classes.now (action_at classes.now levels)
         (view json.now)) }
 {
@@ -48,17 +53,17 @@ fn keyed_body(alloc: Global, classes: &Classes, levels: u32, json: &Json) -> Res
 }
 
 /// A body by its name, and nothing else.
-fn name_alone(alloc: Global, json: &Json) -> Result<Body, Stop>
+fn name_alone(alloc: Global, json: &Json) -> Result<Body, ShapeFault>
     ensures { Reads result (by_name_or (as_str (view json.now)) None) }
 {
     match json.as_str() {
         Some(name) => by_name(alloc, name),
-        None => Err(Stop::BadShape),
+        None => Err(ShapeFault::BadShape),
     }
 }
 
 /// A body that has the one of this name run in its place.
-fn by_name(alloc: Global, name: &str) -> Result<Body, Stop>
+fn by_name(alloc: Global, name: &str) -> Result<Body, ShapeFault>
     ensures { Reads result (Some (running name.now)) }
 {
     Ok(Body {
@@ -74,7 +79,7 @@ pub fn bodies(
     classes: &Classes,
     levels: u32,
     items: &[Json],
-) -> Result<Items<Body>, Stop>
+) -> Result<Items<Body>, ShapeFault>
     ensures { Reads result (each (body_at classes.now levels) (items_view items.now)) }
 {
     let mut bodies = Items::with_capacity(alloc, items.len())?;
@@ -91,7 +96,7 @@ fn performed(
     classes: &Classes,
     levels: u32,
     json: Option<&Json>,
-) -> Result<Items<Action>, Stop>
+) -> Result<Items<Action>, ShapeFault>
     ensures { Reads result (field [] (list_at (action_at classes.now levels))
         (option_map (λ d. view d.now) json.entry)) }
 {
@@ -102,7 +107,7 @@ fn performed(
 }
 
 /// How a body ends that may not say it.
-fn last(alloc: Global, classes: &Classes, json: Option<&Json>) -> Result<End, Stop>
+fn last(alloc: Global, classes: &Classes, json: Option<&Json>) -> Result<End, ShapeFault>
     ensures { Reads result (field Pass (end_at classes.now)
         (option_map (λ d. view d.now) json.entry)) }
 {

@@ -9,13 +9,13 @@ ghost use Rattle.dv_script.specs.declared.limits.TheConstants.{MOST_UNITS};
 
 use dv_clock::limits::MOST_DELAY;
 use dv_forms::leaf::{fields, number, small};
-use dv_forms::stop::Stop;
+use dv_forms::shape_fault::ShapeFault;
 use dv_script::limits::MOST_UNITS;
 use dv_script::script::Cooperator;
 use serde_json::Value as Json;
 
 /// A cooperator that a script may leave out.
-pub fn cooperator_or_plain(json: Option<&Json>) -> Result<Cooperator, Stop>
+pub fn cooperator_or_plain(json: Option<&Json>) -> Result<Cooperator, ShapeFault>
     ensures { Reads result
         (field plain_cooperator cooperator_at (option_map (λ d. view d.now) json.entry)) }
 {
@@ -26,7 +26,7 @@ pub fn cooperator_or_plain(json: Option<&Json>) -> Result<Cooperator, Stop>
 }
 
 #[tactic(auto, unfolding(crate::specs::Shape::cooperator_at))]
-fn cooperator(json: &Json) -> Result<Cooperator, Stop>
+fn cooperator(json: &Json) -> Result<Cooperator, ShapeFault>
     ensures { Reads result (cooperator_at (view json.now)) }
 {
     fields(json, &["units", "delay"])?;
@@ -35,22 +35,22 @@ fn cooperator(json: &Json) -> Result<Cooperator, Stop>
     Ok(Cooperator { units, delay })
 }
 
-fn units(json: Option<&Json>) -> Result<u32, Stop>
+fn units(json: Option<&Json>) -> Result<u32, ShapeFault>
     ensures { Reads result (option_and_then (number_at 1 MOST_UNITS)
         (option_map (λ d. view d.now) json.entry)) }
 {
     match json {
-        None => Err(Stop::BadShape),
+        None => Err(ShapeFault::BadShape),
         Some(json) => small(json, 1, MOST_UNITS),
     }
 }
 
-fn delay(json: Option<&Json>) -> Result<u64, Stop>
+fn delay(json: Option<&Json>) -> Result<u64, ShapeFault>
     ensures { Reads result (option_and_then (number_at 1 MOST_DELAY)
         (option_map (λ d. view d.now) json.entry)) }
 {
     match json {
-        None => Err(Stop::BadShape),
+        None => Err(ShapeFault::BadShape),
         Some(json) => number(json, 1, MOST_DELAY),
     }
 }

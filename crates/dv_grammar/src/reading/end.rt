@@ -7,7 +7,7 @@ use dv_forms::arguments::{
 };
 use dv_forms::leaf::{call, none};
 use dv_forms::leaving::may_leave;
-use dv_forms::stop::Stop;
+use dv_forms::shape_fault::ShapeFault;
 use dv_forms::words::EndWord;
 use dv_script::body::End;
 use dv_value::boxed::Boxed;
@@ -17,18 +17,23 @@ use std::alloc::Global;
 
 /// How a body ends.
 #[tactic(auto, unfolding(crate::specs::Shape::end_at))]
-pub fn end(alloc: Global, classes: &Classes, json: &Json) -> Result<End, Stop>
+pub fn end(alloc: Global, classes: &Classes, json: &Json) -> Result<End, ShapeFault>
     ensures { Reads result (end_at classes.now (view json.now)) }
 {
     let (word, arguments) = call(json)?;
     match EndWord::named(word) {
         Some(word) => end_of(alloc, classes, word, arguments),
-        None => Err(Stop::BadShape),
+        None => Err(ShapeFault::BadShape),
     }
 }
 
 #[tactic(auto, unfolding(crate::specs::Shape::end_of))]
-fn end_of(alloc: Global, classes: &Classes, word: EndWord, arguments: &[Json]) -> Result<End, Stop>
+fn end_of(
+    alloc: Global,
+    classes: &Classes,
+    word: EndWord,
+    arguments: &[Json],
+) -> Result<End, ShapeFault>
     ensures { Reads result (end_of classes.now word (items_view arguments.now)) }
 {
     match word {
@@ -54,13 +59,13 @@ fn end_of(alloc: Global, classes: &Classes, word: EndWord, arguments: &[Json]) -
 
 /// How an inline body ends.
 #[tactic(auto, unfolding(crate::specs::Shape::leave_at))]
-pub fn leave(alloc: Global, classes: &Classes, json: &Json) -> Result<End, Stop>
+pub fn leave(alloc: Global, classes: &Classes, json: &Json) -> Result<End, ShapeFault>
     ensures { Reads result (leave_at classes.now (view json.now)) }
 {
     let end = end(alloc, classes, json)?;
     if may_leave(&end) {
         Ok(end)
     } else {
-        Err(Stop::BadShape)
+        Err(ShapeFault::BadShape)
     }
 }

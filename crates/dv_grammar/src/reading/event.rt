@@ -7,7 +7,7 @@ use crate::reading::action::action;
 use dv_clock::limits::MOST_TICKS;
 use dv_forms::arguments::{one_number, one_small};
 use dv_forms::leaf::call;
-use dv_forms::stop::Stop;
+use dv_forms::shape_fault::ShapeFault;
 use dv_forms::words::EventWord;
 use dv_script::event::Event;
 use dv_script::limits::{MOST_DRAINED, MOST_LEVELS};
@@ -17,18 +17,18 @@ use serde_json::Value as Json;
 use std::alloc::Global;
 
 #[tactic(auto, unfolding(crate::specs::Shape::other_event))]
-fn other_event(json: &Json) -> Result<Event, Stop>
+fn other_event(json: &Json) -> Result<Event, ShapeFault>
     ensures { Reads result (other_event (view json.now)) }
 {
     let (word, arguments) = call(json)?;
     match EventWord::named(word) {
         Some(word) => event_of(word, arguments),
-        None => Err(Stop::BadShape),
+        None => Err(ShapeFault::BadShape),
     }
 }
 
 #[tactic(auto, unfolding(crate::specs::Shape::event_of))]
-fn event_of(word: EventWord, arguments: &[Json]) -> Result<Event, Stop>
+fn event_of(word: EventWord, arguments: &[Json]) -> Result<Event, ShapeFault>
     ensures { Reads result (event_of word (items_view arguments.now)) }
 {
     match word {
@@ -39,15 +39,15 @@ fn event_of(word: EventWord, arguments: &[Json]) -> Result<Event, Stop>
 
 /// The items of an array of events, each an action, or what happens to the clock or to the posts.
 #[tactic(auto, unfolding(crate::specs::Shape::event_at))]
-pub fn events(alloc: Global, classes: &Classes, items: &[Json]) -> Result<Items<Event>, Stop>
+pub fn events(alloc: Global, classes: &Classes, items: &[Json]) -> Result<Items<Event>, ShapeFault>
     ensures { Reads result (each (event_at classes.now) (items_view items.now)) }
 {
     let mut events = Items::with_capacity(alloc, items.len())?;
     for item in items {
         match action(alloc, classes, MOST_LEVELS, item) {
             Ok(action) => events.push(Event::Action(action))?,
-            Err(Stop::BadShape) => events.push(other_event(item)?)?,
-            Err(Stop::OutOfMemory) => return Err(Stop::OutOfMemory),
+            Err(ShapeFault::BadShape) => events.push(other_event(item)?)?,
+            Err(ShapeFault::OutOfMemory) => return Err(ShapeFault::OutOfMemory),
         }
     }
     Ok(events)

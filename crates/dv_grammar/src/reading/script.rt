@@ -14,7 +14,7 @@ use crate::reading::cooperator::cooperator_or_plain;
 use crate::reading::event::events;
 use dv_forms::leaf::{array, fields, number, small, text, two};
 use dv_forms::limits::most_limit;
-use dv_forms::stop::Stop;
+use dv_forms::shape_fault::ShapeFault;
 use dv_forms::table::{declarations, table};
 use dv_forms::versions::{BODIES_SINCE, LAST_VERSION};
 use dv_script::body::Body;
@@ -27,7 +27,7 @@ use serde_json::Value as Json;
 use std::alloc::Global;
 
 /// What a script of this version lets its journal weigh.
-fn limit(version: u32, json: Option<&Json>) -> Result<u64, Stop>
+fn limit(version: u32, json: Option<&Json>) -> Result<u64, ShapeFault>
     ensures { Reads result (field USUAL_LIMIT (number_at 0 (most_limit version))
         (option_map (λ d. view d.now) json.entry)) }
 {
@@ -41,7 +41,7 @@ fn callers(
     alloc: Global,
     classes: &Classes,
     json: Option<&Json>,
-) -> Result<Items<Items<Body>>, Stop>
+) -> Result<Items<Items<Body>>, ShapeFault>
     ensures { Reads result (field [] (list_at (caller_at classes.now))
         (option_map (λ d. view d.now) json.entry)) }
 {
@@ -51,7 +51,11 @@ fn callers(
     }
 }
 
-fn each_caller(alloc: Global, classes: &Classes, items: &[Json]) -> Result<Items<Items<Body>>, Stop>
+fn each_caller(
+    alloc: Global,
+    classes: &Classes,
+    items: &[Json],
+) -> Result<Items<Items<Body>>, ShapeFault>
     ensures { Reads result (each (caller_at classes.now) (items_view items.now)) }
 {
     let mut callers = Items::new(alloc);
@@ -61,35 +65,39 @@ fn each_caller(alloc: Global, classes: &Classes, items: &[Json]) -> Result<Items
     Ok(callers)
 }
 
-fn caller(alloc: Global, classes: &Classes, json: &Json) -> Result<Items<Body>, Stop>
+fn caller(alloc: Global, classes: &Classes, json: &Json) -> Result<Items<Body>, ShapeFault>
     ensures { Reads result (caller_at classes.now (view json.now)) }
 {
     bodies(alloc, classes, MOST_LEVELS, array(json)?)
 }
 
-fn all_events(alloc: Global, classes: &Classes, json: Option<&Json>) -> Result<Items<Event>, Stop>
+fn all_events(
+    alloc: Global,
+    classes: &Classes,
+    json: Option<&Json>,
+) -> Result<Items<Event>, ShapeFault>
     ensures { Reads result (option_and_then (list_at (event_at classes.now))
         (option_map (λ d. view d.now) json.entry)) }
 {
     match json {
-        None => Err(Stop::BadShape),
+        None => Err(ShapeFault::BadShape),
         Some(json) => events(alloc, classes, array(json)?),
     }
 }
 
 /// The version of a script.
-fn version(json: Option<&Json>) -> Result<u32, Stop>
+fn version(json: Option<&Json>) -> Result<u32, ShapeFault>
     ensures { Reads result (option_and_then (number_at 1 LAST_VERSION)
         (option_map (λ d. view d.now) json.entry)) }
 {
     match json {
-        None => Err(Stop::BadShape),
+        None => Err(ShapeFault::BadShape),
         Some(json) => small(json, 1, LAST_VERSION),
     }
 }
 
 /// An object with no other keys than those of a script of this version, but maybe a comment.
-fn fields_of(version: u32, json: &Json) -> Result<(), Stop>
+fn fields_of(version: u32, json: &Json) -> Result<(), ShapeFault>
     ensures { Gives (λ _. tt) result (fields_at (keys_of version) (view json.now)) }
 {
     if version == 1 {
@@ -135,7 +143,7 @@ fn fields_of(version: u32, json: &Json) -> Result<(), Stop>
 }
 
 /// The pools that a script names, which it may leave out.
-fn pools(alloc: Global, json: Option<&Json>) -> Result<Items<NamedPool>, Stop>
+fn pools(alloc: Global, json: Option<&Json>) -> Result<Items<NamedPool>, ShapeFault>
     ensures { Reads result (field [] (list_at pool_at) (option_map (λ d. view d.now) json.entry)) }
 {
     match json {
@@ -144,7 +152,7 @@ fn pools(alloc: Global, json: Option<&Json>) -> Result<Items<NamedPool>, Stop>
     }
 }
 
-fn each_pool(alloc: Global, items: &[Json]) -> Result<Items<NamedPool>, Stop>
+fn each_pool(alloc: Global, items: &[Json]) -> Result<Items<NamedPool>, ShapeFault>
     ensures { Reads result (each pool_at (items_view items.now)) }
 {
     let mut pools = Items::new(alloc);
@@ -155,7 +163,7 @@ fn each_pool(alloc: Global, items: &[Json]) -> Result<Items<NamedPool>, Stop>
 }
 
 #[tactic(auto, unfolding(crate::specs::Shape::pool_at, dv_forms::specs::Parts::pair))]
-fn pool(alloc: Global, json: &Json) -> Result<NamedPool, Stop>
+fn pool(alloc: Global, json: &Json) -> Result<NamedPool, ShapeFault>
     ensures { Reads result (pool_at (view json.now)) }
 {
     let (name, workers) = two(array(json)?)?;
@@ -169,7 +177,7 @@ fn named_bodies(
     alloc: Global,
     classes: &Classes,
     json: Option<&Json>,
-) -> Result<Items<NamedBody>, Stop>
+) -> Result<Items<NamedBody>, ShapeFault>
     ensures { Reads result (field [] (list_at (named_body_at classes.now))
         (option_map (λ d. view d.now) json.entry)) }
 {
@@ -183,7 +191,7 @@ fn each_named_body(
     alloc: Global,
     classes: &Classes,
     items: &[Json],
-) -> Result<Items<NamedBody>, Stop>
+) -> Result<Items<NamedBody>, ShapeFault>
     ensures { Reads result (each (named_body_at classes.now) (items_view items.now)) }
 {
     let mut bodies = Items::new(alloc);
@@ -194,7 +202,7 @@ fn each_named_body(
 }
 
 #[tactic(auto, unfolding(crate::specs::Shape::named_body_at, dv_forms::specs::Parts::pair))]
-fn named_body(alloc: Global, classes: &Classes, json: &Json) -> Result<NamedBody, Stop>
+fn named_body(alloc: Global, classes: &Classes, json: &Json) -> Result<NamedBody, ShapeFault>
     ensures { Reads result (named_body_at classes.now (view json.now)) }
 {
     let (name, json) = two(array(json)?)?;
@@ -205,7 +213,7 @@ fn named_body(alloc: Global, classes: &Classes, json: &Json) -> Result<NamedBody
 
 /// A script by its shape alone.
 #[tactic(auto, unfolding(crate::specs::Shape::script_at))]
-pub fn shape(alloc: Global, json: &Json) -> Result<Draft, Stop>
+pub fn shape(alloc: Global, json: &Json) -> Result<Draft, ShapeFault>
     ensures { Reads result (script_at (view json.now)) }
 {
     let version = version(json.get("version"))?;

@@ -7,7 +7,7 @@ use crate::reading::action::action;
 use crate::reading::end::leave;
 use dv_forms::arguments::one_text;
 use dv_forms::leaf::{array, call, classes_in, none, one, three, two};
-use dv_forms::stop::Stop;
+use dv_forms::shape_fault::ShapeFault;
 use dv_forms::words::StatementWord;
 use dv_script::body::Statement;
 use dv_value::class_id::ClassId;
@@ -24,16 +24,16 @@ pub fn statement(
     classes: &Classes,
     levels: u32,
     json: &Json,
-) -> Result<Statement, Stop>
+) -> Result<Statement, ShapeFault>
     ensures { Reads result (statement_at classes.now levels (view json.now)) }
 {
     if levels == 0 {
-        return Err(Stop::BadShape);
+        return Err(ShapeFault::BadShape);
     }
     let (word, arguments) = call(json)?;
     match StatementWord::named(word) {
         Some(word) => statement_of(alloc, classes, levels - 1, word, arguments),
-        None => Err(Stop::BadShape),
+        None => Err(ShapeFault::BadShape),
     }
 }
 
@@ -45,7 +45,7 @@ fn statement_of(
     levels: u32,
     word: StatementWord,
     arguments: &[Json],
-) -> Result<Statement, Stop>
+) -> Result<Statement, ShapeFault>
     ensures { Reads result (statement_of classes.now (action_at classes.now levels)
         (statement_at classes.now levels) word (items_view arguments.now)) }
 {
@@ -80,7 +80,7 @@ fn tried(
     classes: &Classes,
     levels: u32,
     arguments: &[Json],
-) -> Result<(Items<Statement>, Items<ClassId>, Items<Statement>), Stop>
+) -> Result<(Items<Statement>, Items<ClassId>, Items<Statement>), ShapeFault>
     ensures { Reads result (triple (list_at (statement_at classes.now levels))
         (list_at (class_at classes.now)) (list_at (statement_at classes.now levels))
         (items_view arguments.now)) }
@@ -100,7 +100,7 @@ fn finished(
     classes: &Classes,
     levels: u32,
     arguments: &[Json],
-) -> Result<(Items<Statement>, Items<Statement>), Stop>
+) -> Result<(Items<Statement>, Items<Statement>), ShapeFault>
     ensures { Reads result (pair (list_at (statement_at classes.now levels))
         (list_at (statement_at classes.now levels)) (items_view arguments.now)) }
 {
@@ -117,7 +117,7 @@ pub fn statements(
     classes: &Classes,
     levels: u32,
     items: &[Json],
-) -> Result<Items<Statement>, Stop>
+) -> Result<Items<Statement>, ShapeFault>
     ensures { Reads result (each (statement_at classes.now levels) (items_view items.now)) }
 {
     let mut statements = Items::with_capacity(alloc, items.len())?;

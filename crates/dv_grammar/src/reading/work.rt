@@ -7,7 +7,7 @@ ghost use Rattle.dv_grammar.specs.Shape.{work_at, work_of, thread_in_of};
 use dv_clock::limits::MOST_DELAY;
 use dv_forms::arguments::{class_and_message, one_small, one_value};
 use dv_forms::leaf::{call, four, number, text, three};
-use dv_forms::stop::Stop;
+use dv_forms::shape_fault::ShapeFault;
 use dv_forms::words::WorkWord;
 use dv_script::action::Action;
 use dv_script::limits::MOST_SUM;
@@ -18,13 +18,13 @@ use std::alloc::Global;
 
 /// What a thread does.
 #[tactic(auto, unfolding(crate::specs::Shape::work_at))]
-pub fn work(alloc: Global, classes: &Classes, json: &Json) -> Result<Work, Stop>
+pub fn work(alloc: Global, classes: &Classes, json: &Json) -> Result<Work, ShapeFault>
     ensures { Reads result (work_at classes.now (view json.now)) }
 {
     let (word, arguments) = call(json)?;
     match WorkWord::named(word) {
         Some(word) => work_of(alloc, classes, word, arguments),
-        None => Err(Stop::BadShape),
+        None => Err(ShapeFault::BadShape),
     }
 }
 
@@ -34,7 +34,7 @@ fn work_of(
     classes: &Classes,
     word: WorkWord,
     arguments: &[Json],
-) -> Result<Work, Stop>
+) -> Result<Work, ShapeFault>
     ensures { Reads result (work_of classes.now word (items_view arguments.now)) }
 {
     match word {
@@ -50,7 +50,7 @@ fn work_of(
 /// A work that a thread does.
 #[inline(never)]
 #[tactic(auto, unfolding(dv_forms::specs::Parts::triple))]
-pub fn thread(alloc: Global, classes: &Classes, arguments: &[Json]) -> Result<Action, Stop>
+pub fn thread(alloc: Global, classes: &Classes, arguments: &[Json]) -> Result<Action, ShapeFault>
     ensures { Reads result (three_of text_at (number_at 0 MOST_DELAY)
         (work_at classes.now) Action.Thread (items_view arguments.now)) }
 {
@@ -64,7 +64,7 @@ pub fn thread(alloc: Global, classes: &Classes, arguments: &[Json]) -> Result<Ac
 /// A work that a thread of a pool does.
 #[inline(never)]
 #[tactic(auto, unfolding(crate::specs::Shape::thread_in_of))]
-pub fn thread_in(alloc: Global, classes: &Classes, arguments: &[Json]) -> Result<Action, Stop>
+pub fn thread_in(alloc: Global, classes: &Classes, arguments: &[Json]) -> Result<Action, ShapeFault>
     ensures { Reads result (thread_in_of classes.now (items_view arguments.now)) }
 {
     let (name, pool, delay, json) = four(arguments)?;

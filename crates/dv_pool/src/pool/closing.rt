@@ -12,7 +12,7 @@ use dv_script::work::Work;
 use std::alloc::{AllocError, Global};
 use std::sync::Wait;
 
-/// Answers jobs until none is left. Who has every part then knows that all were taken.
+/// Answers jobs until none is left. If the caller holds every part, all were taken then.
 pub fn help_all<R: Wait, G: Gate>(
     rt: &R,
     alloc: Global,

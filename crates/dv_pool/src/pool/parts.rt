@@ -202,7 +202,7 @@ impl Parts {
         }
     }
 
-    /// As `collect`. Who has every part and finds no answer knows that all were taken.
+    /// As `collect`. If the holder of every part finds no answer, all were taken.
     pub fn collect_last<R: Wait>(&mut self, rt: &R, works: &[Option<Work>]) -> bool
         requires orderly { IsOrderly self.old }
         requires placed { HasPlaced works.now self.old }
@@ -222,8 +222,8 @@ impl Parts {
         }
     }
 
-    /// Answers one job, if there is one. Returns whether there was. Who has every part and finds no
-    /// job knows that all were taken.
+    /// Answers one job, if there is one. Returns whether there was. If the holder of every part
+    /// finds no job, all were taken.
     pub fn help<G: Gate>(&mut self, alloc: Global, works: &[Option<Work>], gate: &G) -> bool
         requires orderly { IsOrderly self.old }
         requires placed { HasPlaced works.now self.old }

@@ -20,7 +20,7 @@ use std::alloc::{AllocError, Global};
 
 impl<'s> World<'s> {
     ghost use Rattle.dv_world.specs.World.{call_later, start_timer, has_timed_out, end_timer};
-    ghost use Rattle.dv_world.specs.World.{advance, come_due, cancel_call, reset_call};
+    ghost use Rattle.dv_world.specs.World.{advance, take_due, cancel_call, reset_call};
     ghost use Rattle.dv_objects.specs.Names.{number_of, with_name};
 
     /// Schedules a delayed call of a body, which is due so many ticks later than now, and no later
@@ -134,8 +134,8 @@ impl<'s> World<'s> {
         }
     }
 
-    /// Starts a timer of a Deferred, whose time comes so many ticks later than now, and no later
-    /// than calls are delayed by, as none does that a script which is read starts (Twisted:
+    /// Starts a timer of a Deferred, which expires so many ticks later than now, and no later than
+    /// calls are delayed by, as none does that a script which is read starts (Twisted:
     /// `Deferred.addTimeout`).
     #[tactic(auto, unfolding(crate::specs::World::aside))]
     pub fn start_timer(&mut self, id: DeferredId, delay: u64) -> Result<CallId, AllocError>
@@ -156,14 +156,14 @@ impl<'s> World<'s> {
         }
     }
 
-    /// Whether the time of a timer has come.
+    /// Whether a timer has expired.
     pub fn has_timed_out(&self, timer: CallId) -> bool
         ensures { result ≡ has_timed_out timer self.now }
     {
         self.clock.has_run(timer)
     }
 
-    /// A timer ends, where its time hasn't come. That isn't logged.
+    /// A timer ends, if it hasn't expired. That isn't logged.
     #[tactic(auto, unfolding(crate::specs::World::arrange))]
     pub fn end_timer(&mut self, timer: CallId)
         ensures { self.new ≡ end_timer timer self.old }
@@ -191,10 +191,10 @@ impl<'s> World<'s> {
         }
     }
 
-    /// Takes what is to run next, where something is due by now.
+    /// Takes what is to run next, if something is due by now.
     #[tactic(auto, unfolding(crate::specs::World::aside))]
-    pub fn come_due(&mut self) -> Result<Option<Due>, AllocError>
-        ensures { IfOk result (λ what. (what, self.new) ≡ come_due self.old) }
+    pub fn take_due(&mut self) -> Result<Option<Due>, AllocError>
+        ensures { IfOk result (λ what. (what, self.new) ≡ take_due self.old) }
     {
         if self.stopped {
             return Ok(None);

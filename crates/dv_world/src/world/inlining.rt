@@ -9,7 +9,7 @@ use dv_value::value::Value;
 use std::alloc::AllocError;
 
 impl<'s> World<'s> {
-    ghost use Rattle.dv_world.specs.World.{add_inline, begin_await, come_to_inline, end_await};
+    ghost use Rattle.dv_world.specs.World.{add_inline, begin_await, resume_inline, end_await};
     ghost use Rattle.dv_world.specs.World.{awaited_in};
 
     /// Makes an inline body, which waits for nothing (Twisted: `inlineCallbacks`). It isn't logged,
@@ -26,8 +26,8 @@ impl<'s> World<'s> {
         Ok(id)
     }
 
-    /// Tells that an inline body is to await a Deferred (Twisted: `yield` under `inlineCallbacks`).
-    /// What comes before `end_await` is kept for that.
+    /// Logs that an inline body is to await a Deferred (Twisted: `yield` under `inlineCallbacks`).
+    /// A result that arrives before `end_await` is kept for it.
     #[tactic(auto, unfolding(crate::specs::World::aside))]
     pub fn begin_await(&mut self, inline: Inline, awaited: DeferredId) -> Result<(), AllocError>
         ensures { OnOk result (self.new ≡ begin_await inline awaited self.old) }
@@ -37,32 +37,34 @@ impl<'s> World<'s> {
         }
         match self.journal.write(Entry::Await(inline.of, awaited)) {
             Ok(()) => {
-                self.inlines.begin(inline.id.number());
+                self.inlines.begin_adding(inline.id.number());
                 Ok(())
             }
             Err(stop) => self.stopped_by(stop, ()),
         }
     }
 
-    /// What an inline body awaits comes. Where the body awaits it, it comes back with it, to go on;
-    /// where the pair by which it awaits is being added still, that is kept for `end_await`.
-    #[tactic(auto, unfolding(crate::specs::World::come_to_inline, crate::specs::World::arrange))]
-    pub fn come_to_inline(
+    /// The result that an inline body awaits arrives. A body that awaits it is returned with it, to
+    /// go on. If the pair by which it awaits is still being added, the result is kept for
+    /// `end_await`.
+    #[tactic(auto, unfolding(crate::specs::World::resume_inline, crate::specs::World::arrange))]
+    pub fn resume_inline(
         &mut self,
         inline: InlineId,
         value: Value,
     ) -> Option<(InlineBody<'s>, Value)>
-        ensures { (result, self.new) ≡ come_to_inline inline value self.old }
+        ensures { (result, self.new) ≡ resume_inline inline value self.old }
     {
         if self.stopped {
             drop(value);
             return None;
         }
-        self.inlines.come(inline.number(), value)
+        self.inlines.resume(inline.number(), value)
     }
 
-    /// The pair by which an inline body awaits a Deferred has been added. Where that came
-    /// meanwhile, the body comes back with it, to go on; else it is parked, and awaits from now on.
+    /// The pair by which an inline body awaits a Deferred has been added. If its result arrived
+    /// meanwhile, the body is returned with it, to go on; else it is parked, and awaits from now
+    /// on.
     #[tactic(auto, unfolding(crate::specs::World::end_await, crate::specs::World::arrange))]
     pub fn end_await(
         &mut self,
@@ -77,7 +79,7 @@ impl<'s> World<'s> {
             drop(body);
             return Ok(None);
         }
-        self.inlines.end(inline.number(), awaited, body)
+        self.inlines.end_adding(inline.number(), awaited, body)
     }
 
     /// The Deferred that an inline body awaits, where it awaits one.

@@ -63,7 +63,7 @@ where
         Call::Event => write!(lines, "{:?}\n", engine.event(rt)),
         Call::Drain(posts) => {
             let batch = batch(rt.alloc(), posts)?;
-            write!(lines, "{:?}\n", engine.drain(rt, batch))
+            write!(lines, "{:?}\n", engine.run_batch(rt, batch))
         }
     }
 }

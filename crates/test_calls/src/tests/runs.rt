@@ -107,7 +107,7 @@ where
     for batch in batches {
         go_on(rt, engine);
         let batch = copied(rt.alloc(), batch.as_slice())?;
-        engine.drain(rt, batch)?;
+        engine.run_batch(rt, batch)?;
     }
     Ok(())
 }

@@ -1,11 +1,11 @@
 use Rattle.std.proofs.Common.{◌≡◌, ℕ, true, List, Option, Some, None, IfSome, sym}
 use Rattle.std.proofs.Math.Bool.{or-true}
-use Rattle.dv_forms.specs.declared.want.Call.{Call}
+use Rattle.dv_forms.specs.declared.want.CallKind.{CallKind}
 use Rattle.dv_forms.specs.Words.{has_word, may_stand, narrower, own_forms}
 use Rattle.dv_forms.proofs.words.form_of.Goals as goal
 
 -- a word of the narrower place may stand at the place
-inner_stands : (c n : Call) (word : List ℕ) (version : ℕ) → narrower c ≡ Some n
+inner_stands : (c n : CallKind) (word : List ℕ) (version : ℕ) → narrower c ≡ Some n
     → has_word (own_forms n) word version ≡ true → may_stand c word version ≡ true
 inner_stands c n word version is h = rw (is, h) (or-true (has_word (own_forms c) word version))
 

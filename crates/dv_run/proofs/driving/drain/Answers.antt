@@ -1,6 +1,6 @@
 use Rattle.std.proofs.Common.{◌++◌, ◌≡◌, ◌∙◌, Err, ap, sym, subst}
 use Rattle.dv_posts.specs.Batches.{joined}
-use Rattle.dv_engine.specs.Engine.{Drained, IsStrange, IsWithin, phase_after}
+use Rattle.dv_engine.specs.Engine.{RanBatch, IsStrange, IsWithin, phase_after}
 use Rattle.dv_engine.specs.declared.engine.Phase.{Phase}
 use Rattle.dv_engine.specs.declared.error.EngineFault.{EngineFault}
 use Rattle.dv_posts.specs.Posts.{of}
@@ -13,7 +13,7 @@ returns-in-Ok-clause-yes g c lawful =
     let batch = c.in_ok-batch.batch in
     let got = c.in_ok-batch.ensures in
     let takes = c.in-Ok.ensures in
-    let all : joined c.drain.new.self.batches ≡ joined e.batches ++ batch =
+    let all : joined c.run_batch.new.self.batches ≡ joined e.batches ++ batch =
     ap joined (ap (λ x. x.batches) takes.same) ∙ joined_more e.batches batch in
     record {
       script = ap (λ x. x.script) takes.same;
@@ -27,8 +27,8 @@ returns-in-Err-Stranger-clause-no g c unlawful =
     let e = c.args.engine.now in
     let batch = c.in_ok-batch.batch in
     let got = c.in_ok-batch.ensures in
-    let strange : IsStrange batch e c.drain.new.self =
-    subst (λ (fault : EngineFault). Drained (Err fault) batch e c.drain.new.self) c.in-Err-Stranger.field-0-is
+    let strange : IsStrange batch e c.run_batch.new.self =
+    subst (λ (fault : EngineFault). RanBatch (Err fault) batch e c.run_batch.new.self) c.in-Err-Stranger.field-0-is
     c.in-Err-Stranger.ensures in
     record {
       posts = joined e.batches ++ batch;

@@ -1,6 +1,6 @@
 use Rattle.std.proofs.Common.{◌++◌, ◌≡◌, ◌∙◌, Err, ap, sym, subst}
 use Rattle.dv_posts.specs.Batches.{joined, posts_of}
-use Rattle.dv_engine.specs.Engine.{Drained, IsStrange, IsWithin, phase_after}
+use Rattle.dv_engine.specs.Engine.{RanBatch, IsStrange, IsWithin, phase_after}
 use Rattle.dv_engine.specs.declared.engine.Phase.{Phase}
 use Rattle.dv_engine.specs.declared.error.EngineFault.{EngineFault}
 use Rattle.dv_posts.specs.Posts.{of}
@@ -12,7 +12,7 @@ returns-in-Ok g c =
     let e = c.args.engine.now in
     let rest = c.args.rest in
     let takes = c.in-Ok.ensures in
-    let all : joined c.drain.new.self.batches ≡ joined e.batches ++ rest =
+    let all : joined c.run_batch.new.self.batches ≡ joined e.batches ++ rest =
     ap joined (ap (λ x. x.batches) takes.same) ∙ joined_more e.batches rest in
     record {
       script = ap (λ x. x.script) takes.same;
@@ -26,8 +26,8 @@ pub unreachable-requires-in-Err-Stranger : goal.unreachable-requires-in-Err-Stra
 unreachable-requires-in-Err-Stranger g c =
     let e = c.args.engine.now in
     let rest = c.args.rest in
-    let strange : IsStrange rest e c.drain.new.self =
-    subst (λ (fault : EngineFault). Drained (Err fault) rest e c.drain.new.self) c.in-Err-Stranger.field-0-is
+    let strange : IsStrange rest e c.run_batch.new.self =
+    subst (λ (fault : EngineFault). RanBatch (Err fault) rest e c.run_batch.new.self) c.in-Err-Stranger.field-0-is
     c.in-Err-Stranger.ensures in
     strange.strange (
       subst (λ (phase : Phase). IsWithin phase rest) (sym c.requires.ended) tt,

@@ -1,7 +1,7 @@
 use Rattle.std.proofs.Common.{subst}
 use Rattle.dv_engine.proofs.EngineLemmas.{over_ends}
 use Rattle.dv_posts.specs.Batches.{AreNext, Callers, joined}
-use Rattle.dv_engine.specs.Engine.{Engine, Comes, Stands}
+use Rattle.dv_engine.specs.Engine.{Engine, HasEnd, Stands}
 use Rattle.dv_engine.specs.declared.engine.Phase.{Phase}
 use Rattle.dv_engine.specs.declared.engine.Phase.TheVariants.{Over}
 use Rattle.dv_engine.proofs.engine.Engine.into_end.Goals as goal
@@ -19,7 +19,7 @@ returns g c =
       phase = e.phase;
     } in
     let stands : Stands Over before = subst (λ (p : Phase). Stands p before) c.in-Over.is c.self.invariant.0 in
-    subst (λ (x : Engine). Comes x r) c.self.view_is (record {
+    subst (λ (x : Engine). HasEnd x r) c.self.view_is (record {
       over = c.in-Over.is;
       batches = told.batches;
       world = told.world;

@@ -4,16 +4,16 @@ ghost use Rattle.dv_definition.specs.Rule.{after};
 ghost use Rattle.dv_definition.specs.Scripts.{inline_goes};
 ghost use Rattle.dv_objects.specs.declared.performed.Performed.TheVariants.{Done};
 ghost use Rattle.dv_frames.specs.Bounds.{Bounded};
-ghost use Rattle.dv_inline.specs.Position.{want_at};
+ghost use Rattle.dv_inline.specs.Position.{request_at};
 
-use crate::acting::begin;
+use crate::acting::act;
 use crate::taking::taken;
 use dv_frames::following::fire_and_settle;
 use dv_frames::frame::{Frame, Inlining};
 use dv_frames::turn::Turn;
 use dv_inline::body::InlineBody;
 use dv_inline::poller::Poller;
-use dv_inline::want::Want;
+use dv_inline::request::Request;
 use dv_objects::inline_id::Inline;
 use dv_objects::performed::Performed;
 use dv_threads::inlining::{begin_await, end_action, end_await};
@@ -37,8 +37,8 @@ pub fn go_on<'s>(
             poll(poller, turn, inline, body)
         }
         Inlining::Acted(inline, body) => {
-            let came = taken(&mut turn.performed);
-            end_action(turn, inline, body, came)
+            let performed = taken(&mut turn.performed);
+            end_action(turn, inline, body, performed)
         }
         Inlining::Awaited(inline, awaited, body) => {
             turn.performed = Performed::Done;
@@ -47,7 +47,7 @@ pub fn go_on<'s>(
     }
 }
 
-/// Polls a body: it is over, and its Deferred is fired, or what it wants is done.
+/// Polls a body: it is over, and its Deferred is fired, or what it requests is done.
 fn poll<'s>(
     poller: &Poller,
     turn: &mut Turn<'s>,
@@ -61,29 +61,33 @@ fn poll<'s>(
     let mut body = body;
     match poller.poll(&mut body) {
         Poll::Ready(outcome) => fire_and_settle(turn, inline.of, outcome?),
-        Poll::Pending => want(turn, inline, body),
+        Poll::Pending => do_requested(turn, inline, body),
     }
 }
 
-/// Does what a body wants.
-fn want<'s>(turn: &mut Turn<'s>, inline: Inline, body: InlineBody<'s>) -> Result<(), AllocError>
+/// Does what a body requests.
+fn do_requested<'s>(
+    turn: &mut Turn<'s>,
+    inline: Inline,
+    body: InlineBody<'s>,
+) -> Result<(), AllocError>
     requires bounded { Bounded turn.old.world }
     requires done { turn.old.performed ≡ Done }
     ensures { OnOk result
-        (turn.new ≡ after (page.do_wanted inline (want_at body.entry) body.entry) turn.old) }
+        (turn.new ≡ after (page.do_requested inline (request_at body.entry) body.entry) turn.old) }
 {
-    match body.want() {
+    match body.request() {
         None => {
             drop(body);
             Ok(())
         }
-        Some(Want::Do(action)) => {
+        Some(Request::Do(action)) => {
             let of = inline.of;
             let action = action.get();
             turn.stack
                 .push(Frame::Inline(Inlining::Acted(inline, body)))?;
-            begin(turn, Some(of), action)
+            act(turn, Some(of), action)
         }
-        Some(Want::Await(name)) => begin_await(turn, inline, name, body),
+        Some(Request::Await(name)) => begin_await(turn, inline, name, body),
     }
 }

@@ -2,7 +2,7 @@ use Rattle.std.proofs.Common.{ap, sym, ◌∙◌}
 use Rattle.dv_objects.specs.Inlines.{end_adding}
 use Rattle.dv_objects.proofs.InlinesLemmas.{found_at, took_keyless, kept_put, end_some, end_none, kept_in, end_adds}
 use Rattle.dv_objects.proofs.InlinesLemmas.{none_put}
-use Rattle.dv_objects.proofs.inlines.Inlines.end.Goals as goal
+use Rattle.dv_objects.proofs.inlines.Inlines.end_adding.Goals as goal
 
 pub invariant_of-self-in-Some-take : goal.invariant_of-self-in-Some-take
 invariant_of-self-in-Some-take c =

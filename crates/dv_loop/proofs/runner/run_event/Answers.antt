@@ -7,22 +7,22 @@ use Rattle.dv_loop.proofs.Stopped.{happens_stopped}
 use Rattle.dv_loop.proofs.Turns.{happening_bounded}
 use Rattle.dv_definition.specs.Scripts.{Occurs}
 use Rattle.dv_threads.specs.Threading.{GoesOn}
-use Rattle.dv_loop.proofs.runner.happen.Goals as goal
+use Rattle.dv_loop.proofs.runner.run_event.Goals as goal
 
 pub submit_all-requires : goal.submit_all-requires
 submit_all-requires g c =
     subst (λ (works : List Work). GoesOn c.args.jobs.now works) (sym c.works.ensures.works)
     (subst (λ (works : List Work). GoesOn works c.begin_event.new.turn.world.works) (sym c.requires.jobs)
-    (subst (λ (turn : Turn). GoesOn turn.world.works c.begin_event.new.turn.world.works) c.begin_anew.ensures
+    (subst (λ (turn : Turn). GoesOn turn.world.works c.begin_event.new.turn.world.works) c.clear_turn.ensures
     (happening_goes_on
-    (Occurs c.args.event.now) c.begin_anew.new.turn c.begin_event.new.turn c.in_ok-begin_event.ensures)))
+    (Occurs c.args.event.now) c.clear_turn.new.turn c.begin_event.new.turn c.in_ok-begin_event.ensures)))
 
 pub run-requires : goal.run-requires
 run-requires g c = record {
   bounded =
       happening_bounded
-      (Occurs c.args.event.now) c.begin_anew.new.turn c.begin_event.new.turn c.in_ok-begin_event.ensures
-      (subst (λ (turn : Turn). Bounded turn.world) (sym c.begin_anew.ensures) c.requires.bounded);
+      (Occurs c.args.event.now) c.clear_turn.new.turn c.begin_event.new.turn c.in_ok-begin_event.ensures
+      (subst (λ (turn : Turn). Bounded turn.world) (sym c.clear_turn.ensures) c.requires.bounded);
   jobs = c.in_ok-submit_all.ensures ∙ c.works.ensures.works;
 }
 

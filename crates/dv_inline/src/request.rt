@@ -1,8 +1,8 @@
 use dv_script::lent::{ActionRef, TextRef};
 
-/// What an inline body wants before it goes on.
+/// What an inline body requests before it goes on.
 #[derive(Drop)]
-pub enum Want<'s> {
+pub enum Request<'s> {
     /// That the action is performed.
     Do(ActionRef<'s>),
     /// The result of the Deferred of this name.

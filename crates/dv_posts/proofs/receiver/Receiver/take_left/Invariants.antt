@@ -1,6 +1,6 @@
 use Rattle.std.proofs.Common.{◌≡◌, ◌+◌, ◌++◌, length, map}
 use Rattle.dv_posts.specs.Posts.{post}
-use Rattle.dv_posts.proofs.receiver.Receiver.drain.Given as goal
+use Rattle.dv_posts.proofs.receiver.Receiver.take_left.Given as goal
 
 abbrev pub invariant-loop : goal.invariant-loop
 invariant-loop l =
