@@ -206,6 +206,8 @@ ACTIONS = _table("action")
 #: the first version that has a form of an action
 ACTIONS_SINCE = _since("action")
 ENDS = _table("end")
+#: the first version that has an end
+ENDS_SINCE = _since("end")
 #: how an inline body may end
 INLINE_ENDS = _table("leaving")
 STATEMENTS = _table("statement")
