@@ -299,7 +299,7 @@ class _Shape:
         elif kind is Kind.ACTION:
             self._said(value, grammar.ACTIONS, grammar.SINCE)
         elif kind is Kind.END:
-            self._said(value, grammar.INLINE_ENDS)
+            self._said(value, grammar.INLINE_ENDS, grammar.SINCE)
         elif kind is Kind.WORK:
             self._said(value, grammar.WORKS)
         else:
@@ -318,7 +318,7 @@ class _Shape:
         for action in self._array(body.get("do", [])):
             self._said(action, grammar.ACTIONS, grammar.SINCE)
         if "end" in body:
-            self._said(body["end"], grammar.ENDS)
+            self._said(body["end"], grammar.ENDS, grammar.SINCE)
 
     def _value(self, value: Any) -> None:
         """A value, which is no failure."""
