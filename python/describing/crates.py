@@ -1,7 +1,7 @@
 """`make_map [--write]`: prints the table of crates of crates/README.md, made from the first comment of each crate's root.
 
 With --write the table is written into the page. Status 0: it was printed or written; 1: a crate has no such comment, or the page no
-such table; 64: the words are wrong.
+such table; 64: the arguments are wrong.
 """
 
 from __future__ import annotations

@@ -13,7 +13,7 @@ from describing.sources import Crate, Missing, crates, first_comment, modules
 
 
 class OfTheRepository(unittest.TestCase):
-    """What stands here."""
+    """What is in the repository."""
 
     def test_the_map_has_the_row_of_each_crate(self) -> None:
         held = table_in(PAGE.read_text(encoding="utf-8"))
