@@ -5,7 +5,7 @@
                    [--save FILE] [--measured FILE] [--against FILE] [--markdown]
 
 Each run has to end with the status that its workload says, and its journal has to have as many entries: otherwise nothing is
-measured, and the status is 1. No figure makes the status another: what is fast enough is for whoever reads the tables.
+measured, and the status is 1. No figure makes the status another: what is fast enough is for the reader of the tables.
 """
 from __future__ import annotations
 
@@ -29,7 +29,7 @@ class Wrong(Exception):
 
 
 def program_of(options: argparse.Namespace) -> Path:
-    """The program that is named, or else the one that is built from the sources that stand here."""
+    """The program that is named, or else the one that is built from these sources."""
     program: Path = options.program or built_program()
     if not program.is_file():
         sys.exit(f"there is no program {program}")
@@ -37,7 +37,7 @@ def program_of(options: argparse.Namespace) -> Path:
 
 
 def built_program() -> Path:
-    """The program that is built from the sources that stand here."""
+    """The program that is built from these sources."""
     asked = subprocess.run([str(TOP / "deferreds"), "--program"], capture_output=True, text=True, check=False)
     if asked.returncode != 0:
         sys.exit(asked.stderr.strip() + "; --program PATH names another")

@@ -32,7 +32,7 @@ class Figure:
 
 @dataclass(frozen=True)
 class Pair:
-    """What a run came to before a change, and after it."""
+    """The figures of a run before a change, and after it."""
 
     workload: str
     size: int
@@ -47,7 +47,7 @@ class Pair:
 
 @dataclass(frozen=True)
 class Growth:
-    """What a workload came to at its size, and at sizes that are doubled each time."""
+    """The figures of a workload at its size, and at sizes that are doubled each time."""
 
     workload: str
     sizes: tuple[int, ...]

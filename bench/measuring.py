@@ -17,7 +17,7 @@ from workloads import Script
 
 HERE = Path(__file__).resolve().parent
 
-#: with no workers the thread that performs the script does the jobs, too, so that what is counted is the same each time
+#: with no workers the thread that runs the script runs the jobs, too, so that what is counted is the same each time
 WORKERS = "0"
 KIBIBYTE = 1024
 
@@ -120,7 +120,7 @@ class PeakMemory:
     """Measures the most bytes that a run has resident, by a small program that runs it and writes the kibibytes to a file.
 
     What a process had resident counts for the one that it becomes, so a run measured from here would have at least what this
-    Python has. The kernel counts pages for each processor and adds them up now and then, so one run is told some hundredths more
+    Python has. The kernel counts pages for each processor and adds them up now and then, so one run shows some hundredths more
     or less than another: of some runs the one in the middle is taken.
     """
 

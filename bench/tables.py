@@ -44,7 +44,7 @@ def shown(value: float, measure: Measure) -> str:
 
 
 def measured_table(figures: Figures, entries: Mapping[str, int]) -> Table:
-    """What each workload came to at its least size, where its journal has so many entries."""
+    """The figures of each workload at its least size, where its journal has so many entries."""
     measures = figures.measures()
     names = dict.fromkeys(name for measure in measures for name in figures.workloads(measure))
     rows = []
@@ -57,7 +57,7 @@ def measured_table(figures: Figures, entries: Mapping[str, int]) -> Table:
 
 
 def growth_table(growths: Sequence[Growth], measure: Measure) -> Table:
-    """What each workload came to at n, 2n and 4n, and how it grew: 1.00 is in proportion to n."""
+    """The figures of each workload at n, 2n and 4n, and how they grew: 1.00 is in proportion to n."""
     unit = UNITS[measure][0]
     rows = []
     for growth in growths:
@@ -70,7 +70,7 @@ def growth_table(growths: Sequence[Growth], measure: Measure) -> Table:
 
 
 def pairs_table(pairs: Sequence[Pair], measure: Measure) -> Table:
-    """What each workload came to before a change and after it, and at the end the geometric mean of the ratios, and the worst."""
+    """The figures of each workload before a change and after it, and at the end the geometric mean of the ratios, and the worst."""
     rows = [[p.workload, str(p.size), shown(p.before, measure), shown(p.after, measure), f"{p.ratio:.3f}"] for p in pairs]
     unit = UNITS[measure][0]
     return Table(["workload", "n", f"{unit} before", "after", "ratio"], rows + list(_summary(pairs)))

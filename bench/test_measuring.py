@@ -1,4 +1,4 @@
-"""Tests of the measuring, on a small program that performs nothing but notes, and on some that are wrong."""
+"""Tests of the measuring, on a small program that runs nothing but notes, and on some that are wrong."""
 from __future__ import annotations
 
 import contextlib
@@ -37,7 +37,7 @@ PYTHON = PeakMemory((sys.executable, "-I", "-S", str(HERE / "peak.py")), "by a b
 
 
 def stand_in(folder: str, memory: int = 0, some: str = "", status: int = 0) -> Path:
-    """A small program that performs notes."""
+    """A small program that runs notes."""
     path = Path(folder) / "program"
     path.write_text(STAND_IN.format(python=sys.executable, memory=memory, some=some, status=status))
     path.chmod(0o755)

@@ -75,7 +75,7 @@ class Scripts(unittest.TestCase):
 
 
 class Workloads(unittest.TestCase):
-    """What they are called, and where they are told of."""
+    """What they are called, and where they are described."""
 
     def test_no_two_have_one_name(self) -> None:
         self.assertEqual(len({workload.name for workload in WORKLOADS}), len(WORKLOADS))

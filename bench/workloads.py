@@ -19,7 +19,7 @@ UNITS = 100
 
 @dataclass(frozen=True)
 class Script:
-    """A script, and what a run of it comes to."""
+    """A script, and how a run of it ends."""
 
     events: Sequence[Event]
     #: how many lines its journal has; the lines that tell what became of Deferreds come after them and don't count

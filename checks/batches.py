@@ -58,7 +58,7 @@ def with_a_stranger(order: Order) -> Order:
 
 
 def check_order(program: Path, case: InOrder) -> Optional[str]:
-    """Runs a script in an order, which is performed, and with a stranger, which is refused."""
+    """Runs a script in an order, which is accepted, and with batches that are none, which are refused."""
     ran = run(program, ["--json", "--batches", json.dumps(case.order)], case.script)
     if ran.status not in _PERFORMED:
         return f"{case.name}: {case.order}: status {ran.status} {ran.errors!r}"

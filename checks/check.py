@@ -1,7 +1,7 @@
-"""`check [STAGE ..]`: runs the checks that need no proof, on the program that is built or released for the sources that stand here.
+"""`check [STAGE ..]`: runs the checks that need no proof, on the program that is built or released for these sources.
 
-Without words all stages run, two side by side. What a stage needs and isn't here leaves it out, and the last lines name it. Status 0:
-all that ran passed; 1: a stage failed; 64: the words are wrong; 70: there is no program for these sources.
+Without arguments all stages run, two side by side. A stage that needs a tool which isn't here is left out, and the last lines name it.
+Status 0: all that ran passed; 1: a stage failed; 64: the arguments are wrong; 70: there is no program for these sources.
 """
 
 from __future__ import annotations
@@ -68,18 +68,20 @@ def unittests(folder: str, *words: str) -> List[str]:
 
 
 STAGES = [
-    Stage("release", "the release is whole, and names its own sources", [["./make_release", "--check"]]),
+    Stage("release", "the release is complete, and is of its version and sources", [["./make_release", "--check"]]),
     Stage("launcher", "./deferreds runs the right program, or says why it runs none", [unittests("checks")]),
-    Stage("rows", "each row ends and prints as it says", [
+    Stage("rows", "each row ends and prints as it says, also in given batches and in every order", [
         [_PYTHON, "checks/rows.py"], [_PYTHON, "checks/batches.py"], [_PYTHON, "checks/orders.py", "--random", "30"],
     ]),
     Stage("outputs", "each output that a page shows is what is printed", [[_PYTHON, "checks/documented.py"]]),
-    Stage("language", "pages and the schema of scripts say what the language is", [unittests("python/language_tests", "-t", "python")],
-          variables={"EACH": "4"}),
-    Stage("json", "runs as JSON agree with their journals", [["python/check_json", "--each", "4", "--random", "500"]]),
-    Stage("faults", "refused memory and failed reads and writes, on a sample", [unittests("faults"), ["faults/sweep.py", "--sample"]], no_compiler),
-    Stage("bench", "the measuring of speed", [unittests("bench")]),
-    Stage("view", "the view, but for what needs a browser", [unittests("python/view_tests", "-t", "python")],
+    Stage("language", "the tables of pages, and the schema of scripts, are those of the language",
+          [unittests("python/language_tests", "-t", "python")], variables={"EACH": "4"}),
+    Stage("json", "runs as JSON agree with their journals, and with rows worked out by hand",
+          [["python/check_json", "--each", "4", "--random", "500"]]),
+    Stage("faults", "failed allocations, reads and writes, on a sample of scripts",
+          [unittests("faults"), ["faults/sweep.py", "--sample"]], no_compiler),
+    Stage("bench", "the measuring of speed, not the speed", [unittests("bench")]),
+    Stage("view", "the view, except what needs a browser", [unittests("python/view_tests", "-t", "python")],
           variables={"CHROMIUM": ""}),
     Stage("packages", "the wheel and the Debian package install and run", [unittests("python/packaging_tests", "-t", "python")]),
     Stage("types", "the types of the Python package", [["python/check_types"]], no_mypy),

@@ -39,13 +39,13 @@ _FILE = TOP / "checks" / "orders.rows"
 _JSON, _OPTION, _BATCHES = "--json", "--orders", "--batches"
 #: the statuses of `--orders` of which the model knows, and those of a run that went to its end, or to the limit of its journal
 _MODELLED, _PERFORMED = (ONE_OUTCOME, SEVERAL_OUTCOMES, TOO_MANY), (0, 1)
-#: the fewest orders of a random script, and how many are performed at most: where there are more, so many are drawn
+#: the fewest orders of a random script, and how many run at most: if there are more, so many are drawn
 _FEWEST, _MOST, _DRAWN = 2, 60, 5
 _SHOWN = 300
 
 
 class NotPerformed(Exception):
-    """The program didn't perform a script in an order."""
+    """The program didn't run a script in an order."""
 
 
 class Forms(NamedTuple):

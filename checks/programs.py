@@ -27,7 +27,7 @@ class Ran(NamedTuple):
 
 
 def program_here() -> Path:
-    """The program that the launcher runs: built from the sources that stand here, or released for them."""
+    """The program that the launcher runs: built from these sources, or released for them."""
     try:
         return built()
     except NotRun as why:

@@ -1,5 +1,5 @@
 #!/usr/bin/env python3
-"""Prints what a reader has to believe: the definitions that the headline rests on, as the table of docs/DEFINITIONS.md.
+"""Prints what a reader has to believe: the definitions that the headline rests on, as the table of crates/dv_definition/README.md.
 
 The headline is `Prints` of dv_run. A definition rests on those that its text names, in its own module or by an import. Those of the
 crates of the kit count too, so the kit has to be here. What is read off the Rust types (`specs.declared`) and the words of the

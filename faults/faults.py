@@ -13,7 +13,7 @@ NOT_JSON = (2, b"script refused: 2 NotJson\n")
 
 
 class Kind(Enum):
-    """What is refused, and how the shim is told."""
+    """What fails, and how the shim gets that."""
 
     GROWTH = "growth {} is refused"
     GROWTHS = "growth {} and all later ones are refused"
@@ -71,7 +71,7 @@ class End:
 
 
 def is_whole(script: Script, end: End) -> bool:
-    """Whether a run came to all that the script comes to."""
+    """Whether a run printed all that the script prints."""
     return (end.status, end.errors, end.output) == (script.status, script.errors, script.text)
 
 
@@ -98,7 +98,7 @@ def read_before(script: Script, fault: Fault) -> bytes:
 
 
 def is_cut_off(script: Script, fault: Fault, end: End) -> bool:
-    """Whether a run came to what the script comes to up to the read that finds nothing left."""
+    """Whether a run printed what the script prints up to the read that finds nothing left."""
     if read_before(script, fault).strip() == script.source.strip():
         return is_whole(script, end)
     return gave_up(NOT_JSON, end) and not end.output

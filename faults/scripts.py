@@ -1,4 +1,4 @@
-"""The scripts of the sweep, and what each comes to where nothing fails.
+"""The scripts of the sweep, and what each prints if nothing fails.
 
 Beside `scripts/NAME.json` stands `scripts/NAME.txt`, the text that it prints, which is worked out by hand from
 `docs/SCRIPT.md`, and in every order from `docs/ORDERS.md`, too, and never taken from a run. `scripts/NAME.jsonl` is the

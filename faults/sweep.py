@@ -39,7 +39,7 @@ LONG_TEXT = 1_000
 
 @dataclass
 class Findings:
-    """What the runs came to."""
+    """The results of the runs."""
 
     runs: int = 0
     refused: int = 0
@@ -158,13 +158,13 @@ def sweep_row(program: Program, row: Row, findings: Findings) -> None:
 
 
 def joined(output: bytes) -> bytes:
-    """The texts of entries and outcomes in a run that is told as JSON."""
+    """The texts of entries and outcomes in a run that is printed as JSON."""
     told = [json.loads(line) for line in output.decode().split("\n")[:-1]]
     return "".join(f"{line['line']}\n" for line in told if line["type"] in ("entry", "deferred")).encode()
 
 
 def told_as_json(program: Program, scripts: list[Script], findings: Findings) -> Iterator[Script]:
-    """The scripts, with what the program comes to where nothing fails, which tells what is printed of them."""
+    """The scripts, with how the program ends and what it prints if nothing fails."""
     for script in scripts:
         told = replace(script, name=f"{script.name} as JSON", words=("--json", *script.words))
         end = program.run_in(told, 0, {})
@@ -193,7 +193,7 @@ def compiled_shim(compiler: str, folder: Path) -> Path:
 
 
 def program_here() -> Path:
-    """The program that the launcher runs: built from the sources that stand here, or released for them."""
+    """The program that the launcher runs: built from these sources, or released for them."""
     asked = subprocess.run([str(LAUNCHER), "--program"], stdout=subprocess.PIPE, text=True, check=False)
     if asked.returncode != 0:
         sys.exit(asked.returncode)

@@ -1,4 +1,4 @@
-"""Writes files of packages: the same bytes for the same content, whoever writes them and when."""
+"""Writes files of packages: the same bytes for the same content, at any time and on any machine."""
 
 from __future__ import annotations
 

@@ -1,4 +1,4 @@
-"""`make_release VERSION`, `make_release --check`, `make_release --stamp`: makes a release of the sources that stand here, and checks one.
+"""`make_release VERSION`, `make_release --check`, `make_release --stamp`: makes a release of these sources, and checks one.
 
 VERSION, as 0.1.0, has to have its section in CHANGELOG.md. The gate proves the sources and builds the program, which is put into
 `release/x86_64-linux` beside its SHA-256 and the checksum of its sources. A wheel and a Debian package are made in `dist`.
@@ -7,7 +7,7 @@ VERSION, as 0.1.0, has to have its section in CHANGELOG.md. The gate proves the 
 of the release, by the kit that it names, it has to be the released one, byte for byte: another kit may compile the same sources to
 other bytes. `--stamp` has the program say, by `--version`, of which sources it is.
 
-Status 0: made, or nothing is wrong; 1: something is wrong; 64: the words are wrong; 70: a tool is missing or failed.
+Status 0: made, or nothing is wrong; 1: something is wrong; 64: the arguments are wrong; 70: a tool is missing or failed.
 """
 
 from __future__ import annotations
@@ -64,7 +64,7 @@ def run(words: List[str]) -> None:
 
 
 def sources() -> str:
-    """The checksum of the sources that stand here."""
+    """The checksum of these sources."""
     return output_of([str(TOP / "deferreds"), "--sources"])
 
 
@@ -120,7 +120,7 @@ def faults() -> List[str]:
     stamped, here = Stamp.read(), sources()
     found: List[str] = []
     if stamped.sources != here:
-        found.append(f"{STAMP.relative_to(TOP)} names other sources than stand here: ./make_release --stamp writes it")
+        found.append(f"{STAMP.relative_to(TOP)} names other sources than these: ./make_release --stamp writes it")
     if not has_section(stamped.version):
         found.append(f"CHANGELOG.md has no section for {stamped.version}")
     if f'version = "{stamped.version}"' not in text_of(PYPROJECT):
@@ -137,7 +137,7 @@ def faults_of_program(here: str, kit: str) -> List[str]:
     if text_of(sums) != f"{sha256(program)}  deferreds\n":
         return ["release/x86_64-linux/deferreds has another SHA-256 than SHA256SUMS says"]
     if text_of(of_sources).strip() != here:
-        print("make_release: it is of other sources than stand here, so no program is compared with it")
+        print("make_release: it is of other sources than these, so no program is compared with it")
         return []
     if not BUILT.is_file() or output_of([str(TOP / "deferreds"), "--program"]) != str(BUILT):
         print("make_release: no program is built here, so none is compared with it")
@@ -183,7 +183,7 @@ def take_program() -> None:
     """Puts the program that is built here into the release."""
     built = Path(output_of([str(TOP / "deferreds"), "--program"]))
     if built != BUILT:
-        raise Failed("no program is built from the sources that stand here", 70)
+        raise Failed("no program is built from these sources", 70)
     RELEASED.mkdir(parents=True, exist_ok=True)
     shutil.copyfile(built, RELEASED / "deferreds")
     (RELEASED / "deferreds").chmod(0o755)
@@ -195,7 +195,7 @@ def main() -> int:
     parser = argparse.ArgumentParser(prog="make_release", description=__doc__, formatter_class=argparse.RawDescriptionHelpFormatter)
     what = parser.add_mutually_exclusive_group(required=True)
     what.add_argument("version", nargs="?", metavar="VERSION", help="make a release of this version")
-    what.add_argument("--check", action="store_true", help="check the release that stands here")
+    what.add_argument("--check", action="store_true", help="check the release in this repository")
     what.add_argument("--stamp", action="store_true", help="have the program say of which sources it is")
     parser.add_argument("--without-gate", action="store_true", help="prove what the program stands on alone, and not tests and laws")
     try:

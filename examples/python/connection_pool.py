@@ -45,7 +45,7 @@ def within(seconds, work):
 
 
 class Pool:
-    """Two connections for whoever asks, with three attempts a request."""
+    """Two connections for all that ask, with three attempts a request."""
 
     def __init__(self):
         self.connections = defer.DeferredSemaphore(2)

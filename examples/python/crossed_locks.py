@@ -3,7 +3,7 @@
     python3 examples/python/crossed_locks.py
 
 Where both have their first lock before one of them asks for the second, both wait for ever.
-`./deferreds --orders examples/crossed_locks.json` performs every order: that happens in 4 of 6.
+`./deferreds --orders examples/crossed_locks.json` runs every order: that happens in 4 of 6.
 """
 
 from racing import race, show
@@ -26,7 +26,7 @@ def work(name, first, second):
 
 
 def start(name, first, second):
-    """Has somebody begin."""
+    """Has one of them begin."""
     works[name] = work(name, first, second)
 
 

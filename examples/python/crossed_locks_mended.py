@@ -25,7 +25,7 @@ def work(name, first, second):
 
 
 def start(name, first, second):
-    """Has somebody begin."""
+    """Has one of them begin."""
     works[name] = work(name, first, second)
 
 

@@ -3,7 +3,7 @@
     python3 examples/python/full_queue.py
 
 Mostly both are done. Where both come before anybody asks, the queue is full: put raises QueueOverflow, the second job is
-lost, and Bob waits for ever. `./deferreds --orders examples/full_queue.json` performs every order.
+lost, and Bob waits for ever. `./deferreds --orders examples/full_queue.json` runs every order.
 """
 
 from racing import race, show
@@ -14,7 +14,7 @@ asked = {}
 
 
 def ask(name):
-    """Has somebody ask for a job."""
+    """Has one of them ask for a job."""
     asked[name] = jobs.get()
 
 

@@ -19,7 +19,7 @@ def offer(job):
 
 
 def ask(name):
-    """Has somebody ask for a job."""
+    """Has one of them ask for a job."""
     asked[name] = jobs.get().addCallback(take)
 
 

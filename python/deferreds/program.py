@@ -59,7 +59,7 @@ def built() -> Path:
         raise NotRun(f"{LAUNCHER} can't be run: {error.strerror}") from None
     if asked.returncode != 0:
         raise NotRun(
-            "no program is built from the sources that stand here; ./deferreds --build proves and builds it"
+            "no program is built from these sources; ./deferreds --build proves and builds it"
         )
     return Path(asked.stdout.rstrip("\n"))
 

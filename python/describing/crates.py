@@ -1,7 +1,7 @@
-"""`make_map [--write]`: prints the table of crates of docs/MAP.md, made from the first comment of each crate's root.
+"""`make_map [--write]`: prints the table of crates of crates/README.md, made from the first comment of each crate's root.
 
 With --write the table is written into the page. Status 0: it was printed or written; 1: a crate has no such comment, or the page no
-such table; 64: the words are wrong.
+such table; 64: the arguments are wrong.
 """
 
 from __future__ import annotations
@@ -16,7 +16,7 @@ from deferreds.ending import ended
 
 from .sources import Crate, Missing, crates
 
-PAGE = TOP / "docs" / "MAP.md"
+PAGE = TOP / "crates" / "README.md"
 HEAD = ["| Crate | What it is |", "|---|---|"]
 
 
@@ -55,7 +55,7 @@ def write(page: Path, rows: List[str]) -> bool:
 
 def main() -> int:
     parser = argparse.ArgumentParser(prog="make_map", description=__doc__, formatter_class=argparse.RawDescriptionHelpFormatter)
-    parser.add_argument("--write", action="store_true", help="write the table into docs/MAP.md")
+    parser.add_argument("--write", action="store_true", help="write the table into crates/README.md")
     try:
         asked = parser.parse_args()
     except SystemExit as wrong:

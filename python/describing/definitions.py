@@ -1,7 +1,7 @@
 """`definitions [CRATE ..]`: prints the modules of definitions in reading order, each with the comment with which its file begins.
 
-Without words all crates are listed, each below those that use it. A crate without definitions is left out. Status 0: the list was
-printed; 1: a module has no such comment; 64: the words are wrong.
+Without arguments all crates are listed, each below those that use it. A crate without definitions is left out. Status 0: the list was
+printed; 1: a module has no such comment; 64: the arguments are wrong.
 """
 
 from __future__ import annotations

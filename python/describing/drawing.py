@@ -1,7 +1,7 @@
 """`make_drawing [--check]`: writes what a page draws itself by: `deferreds/view/drawing.js`, which is the view's modules as JavaScript,
 and `drawing.html`, the page of a long run without its run, which has that script.
 
-With --check nothing is written. Status 0: it is written, or is what it was made from; 1: with --check, it isn't; 64: the words are wrong.
+With --check nothing is written. Status 0: it is written, or is what it was made from; 1: with --check, it isn't; 64: the arguments are wrong.
 """
 
 from __future__ import annotations
@@ -67,7 +67,7 @@ def main(words: List[str]) -> int:
             path.write_text(text, encoding="utf-8")
     stale = [path for path, text in texts.items() if path.read_text(encoding="utf-8") != text]
     for path in stale:
-        say(f"make_drawing: {path} isn't what it is made from; make_drawing writes it anew")
+        say(f"make_drawing: {path} isn't what it is made from; make_drawing writes it again")
     return 1 if stale else 0
 
 

@@ -1,4 +1,4 @@
-"""What pages print from the sources: the table of crates in docs/MAP.md, and the list of definitions."""
+"""What pages print from the sources: the table of crates in crates/README.md, and the list of definitions."""
 
 from __future__ import annotations
 
@@ -13,11 +13,11 @@ from describing.sources import Crate, Missing, crates, first_comment, modules
 
 
 class OfTheRepository(unittest.TestCase):
-    """What stands here."""
+    """What is in the repository."""
 
     def test_the_map_has_the_row_of_each_crate(self) -> None:
         held = table_in(PAGE.read_text(encoding="utf-8"))
-        assert held is not None, "docs/MAP.md has no table of crates"
+        assert held is not None, "crates/README.md has no table of crates"
         for row, printed in zip_longest(held, table(crates())):
             self.assertEqual(row, printed, "python/make_map --write puts the row right")
 

@@ -33,7 +33,7 @@ _ROOM: "List[tempfile.TemporaryDirectory[str]]" = []
 
 
 def setUpModule() -> None:
-    """Makes one virtual environment, since that takes longer than all else; each class installs into it anew."""
+    """Makes one virtual environment, since that takes longer than all else; each class installs into it again."""
     _ROOM.append(tempfile.TemporaryDirectory())
     unittest.addModuleCleanup(lambda: _ROOM.pop().cleanup())
     virtual_environment(Path(_ROOM[0].name, "environment"))

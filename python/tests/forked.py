@@ -2,7 +2,7 @@
 
 Run as a program, this is the one that they are forked off, the server. It takes requests from the socket whose number is its word.
 It has no reactor, and puts no instruments in: so each process has these as if it had imported them itself. Beside each process the
-server forks a second one, which waits for its end and tells of it.
+server forks a second one, which waits for its end and reports it.
 """
 
 from __future__ import annotations
@@ -26,7 +26,7 @@ from typing import Dict, List, Mapping, NamedTuple, Optional, Sequence, Tuple, U
 #: more bytes than a request has
 _MOST = 1 << 17
 
-#: how many bytes a number has that is told
+#: how many bytes a number has that is sent
 _NUMBER = 8
 
 #: longer than any of these processes runs
@@ -129,7 +129,7 @@ def environment() -> Dict[str, str]:
 
 
 def _read_number(stream: int) -> int:
-    """The next number that is told."""
+    """The next number that is sent."""
     told = os.read(stream, _NUMBER)
     if len(told) != _NUMBER:
         raise EOFError("the process that was to tell of another has ended")

@@ -1,4 +1,4 @@
-"""Random scripts performed as programs: with values whose finalizers and texts use Deferreds, and that are changed later."""
+"""Random scripts that run as programs: with values whose finalizers and texts use Deferreds, and that are changed later."""
 
 from __future__ import annotations
 
@@ -56,7 +56,7 @@ class Program:
         self._ending = 0
 
     def run(self, events: List[List[Any]]) -> None:
-        """Performs each event. What it raises is told, and nothing more."""
+        """Runs each event. What it raises is noted, and nothing more."""
         for event in events:
             try:
                 self.perform(event)
@@ -227,7 +227,7 @@ class Program:
         self._deferreds[name] = defer.maybeDeferred(self.body(body))
 
     def do_gather(self, name: str, children: List[str], flags: List[str]) -> None:
-        """Gathers what some come to."""
+        """Gathers the results of some."""
         found = [self._deferreds[child] for child in children]
         self._deferreds[name] = defer.gatherResults(found, consumeErrors=bool(flags))
 
@@ -320,7 +320,7 @@ class Program:
 
 
 class Mortal:
-    """Something whose end is told to the program."""
+    """Something whose end the program notices."""
 
     def __init__(self, program: Program) -> None:
         self._program = program

@@ -1,4 +1,4 @@
-"""`python3 python/tests/side_by_side.py [MODULE..]`: runs the modules of tests that stand here, two at a time, each in one process.
+"""`python3 python/tests/side_by_side.py [MODULE..]`: runs the modules of tests of this folder, two at a time, each in one process.
 
 A line says how each has ended. Of one in which a test has failed, what unittest has printed follows. Status 0: all have passed; 1: a test
 has failed; 64: there is no such module.

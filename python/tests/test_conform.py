@@ -1,4 +1,4 @@
-"""Tests of the command conform: which program it takes for ours, what it tells of differences, and how long it waits."""
+"""Tests of the command conform: which program it takes for ours, what it prints of differences, and how long it waits."""
 
 import contextlib
 import io
@@ -178,10 +178,10 @@ class OursTest(ConformTest):
 
 
 class ShownTest(ConformTest):
-    """What is told of differences."""
+    """What is printed of differences."""
 
     def differing(self, output: str) -> List[str]:
-        """The names of the rows of which a difference is told."""
+        """The names of the rows of which a difference is printed."""
         return [line.split(": ")[1] for line in output.splitlines() if line.startswith("small.rows: ")]
 
     def test_it_says_how_many_differences_it_does_not_show(self) -> None:

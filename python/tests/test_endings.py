@@ -96,7 +96,7 @@ class Files(RecordingCase):
         self.assertEqual(self.record("-o", "run", "os_exit.py", "0").status, 0)
         self.assertEqual(self.files(), ["run.journal", "run.json", "run.places.json", "run.recording"], "the page of the other run is gone")
         with (self.folder / "run.journal").open("a", encoding="utf-8") as file:
-            file.write("what somebody has noted\n")
+            file.write("what a user has noted\n")
         ended = self.record("-o", "run", "configured.py")
         self.assertEqual((ended.status, ended.printed), (73, ""), ended.said)
 

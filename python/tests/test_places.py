@@ -1,4 +1,4 @@
-"""Where in a program's own files Deferreds were made and actions performed."""
+"""Where in a program's own files Deferreds were made and actions ran."""
 
 from __future__ import annotations
 
@@ -102,7 +102,7 @@ class PlacesTest(unittest.TestCase):
         self.assertEqual(self.at("addCallback")[:2], ["d.addCallback(", "d.addCallbacks(str)"])
         self.assertEqual(self.at("addCallbacks"), ["d.addCallbacks(str, repr)"])
         self.assertEqual(self.at("callback")[:1], ["d.callback(1)"])
-        self.assertEqual(self.at("lock"), ["token = lock.acquire()"])  # a lock is told where it is used first
+        self.assertEqual(self.at("lock"), ["token = lock.acquire()"])  # a lock is recorded where it is used first
         self.assertEqual(self.at("acquire"), ["token = lock.acquire()"])
         self.assertEqual(self.at("addBoth"), ["token.addBoth(str)"])
         self.assertEqual(self.at("pause"), ["token.pause()"])

@@ -1,4 +1,4 @@
-"""The entries that runs can come to stand in docs/TWISTED.md, by their names."""
+"""The entries that runs can reach are in docs/TWISTED.md, by their names."""
 
 from __future__ import annotations
 

@@ -56,7 +56,7 @@ class RealReactor(unittest.TestCase):
     """A program that has its reactor run."""
 
     def recorded(self, name: str, by_chance: Optional[str] = None) -> Recording:
-        """Its recording, which the program reproduces. Refused for this reason, by chance, it is recorded anew, twice at most."""
+        """Its recording, which the program reproduces. Refused for this reason, by chance, it is recorded again, at most twice."""
         recording = Recording(name)
         for _ in range(2):
             if by_chance is not None and by_chance in recording.said:

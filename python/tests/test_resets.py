@@ -28,7 +28,7 @@ class OnTwisted(unittest.TestCase):
     """Scripts with the two actions."""
 
     def assert_journal(self, run_: Run, *expected: str, last: int = 0) -> None:
-        """The run has these lines, or these last ones, and comes to no entry."""
+        """The run has these lines, or these last ones, and reaches no entry."""
         self.assertEqual(run_.journal[-last:], list(expected))
         self.assertEqual(entries(run_), [])
 

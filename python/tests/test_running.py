@@ -22,7 +22,7 @@ def ran(
 
 
 def entries(run_: Run) -> List[Entry]:
-    """The entries of the profile that the run came to."""
+    """The entries of the profile that the run reached."""
     return [entry for _, entry in run_.quirks]
 
 

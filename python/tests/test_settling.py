@@ -1,4 +1,4 @@
-"""Times that are told of a run on a real reactor, chosen for steps that are given."""
+"""Times that are recorded of a run on a real reactor, chosen for steps that are given."""
 
 from __future__ import annotations
 
@@ -402,10 +402,10 @@ class InOrder:
 
 
 class Replay(unittest.TestCase):
-    """What is told, run on a clock."""
+    """What is recorded, run on a clock."""
 
     def replayed(self, steps: List[Step], moves: bool) -> List[Entry]:
-        """What the clock runs, in order, where calls are scheduled with the delays that are told."""
+        """What the clock runs, in order, where calls are scheduled with the delays that are recorded."""
         clock: Any = InOrder() if moves else task.Clock()
         ran: List[Entry] = []
         calls: Dict[Entry, Any] = {}
@@ -431,7 +431,7 @@ class Replay(unittest.TestCase):
         return ran
 
     def settled(self, blocks: float, moves: bool = False) -> int:
-        """How many of 300 runs are told, each of which the clock runs in the same order."""
+        """How many of 300 runs are recorded, each of which the clock runs in the same order."""
         settled = 0
         for seed in range(300):
             simulated = Simulated(seed, blocks, moves)

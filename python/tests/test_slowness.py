@@ -53,7 +53,7 @@ class TestsSlowness(unittest.TestCase):
         self.addCleanup(self.forget_package)
 
     def forget_package(self) -> None:
-        """Has the package be loaded anew by the next test."""
+        """Has the next test load the package again."""
         for name in [name for name in sys.modules if name.partition(".")[0] == "timed"]:
             del sys.modules[name]
 

@@ -219,7 +219,7 @@ class Ran(NamedTuple):
 
     @property
     def told(self) -> Dict[str, str]:
-        """What was told of each test, by its name, without where the recording is."""
+        """What was printed of each test, by its name, without where the recording is."""
         found = re.findall(r"^(?:deferreds: )?(\S+): ((?:failed|left behind).*?); /\S+\.html$", self.output, re.MULTILINE)
         return dict(found)
 

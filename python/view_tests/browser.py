@@ -170,7 +170,7 @@ class Browser:
 
     def open(self, path: Path, fragment: str = "") -> float:
         """Opens a file, waits until it is there, and has drawn itself, and tells how many seconds that took."""
-        if fragment:  # (another fragment alone wouldn't load the page anew)
+        if fragment:  # (another fragment alone wouldn't load the page again)
             self._go("about:blank")
         return self._go(path.resolve().as_uri() + fragment)
 

@@ -161,7 +161,7 @@ class Script(unittest.TestCase):
     """`drawing.js` is what it is made from."""
 
     def test_it_is_of_these_modules(self) -> None:
-        self.assertEqual(drawing.main(["--check"]), 0, "python/make_drawing writes it anew")
+        self.assertEqual(drawing.main(["--check"]), 0, "python/make_drawing writes it again")
 
     def test_it_can_stand_in_a_page(self) -> None:
         text = drawing.FILE.read_text(encoding="utf-8") + (drawing.FOLDER / "python.js").read_text(encoding="utf-8")

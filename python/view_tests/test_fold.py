@@ -1,4 +1,4 @@
-"""The fold over journals: what each Deferred has come to, and why."""
+"""The fold over journals: the state of each Deferred, and why."""
 
 from __future__ import annotations
 

@@ -56,7 +56,7 @@ class Pairs(unittest.TestCase):
 
 
 class Sides(unittest.TestCase):
-    """Sides that do nothing are one row, which shows what they come to."""
+    """Sides that do nothing are one row, which shows their result."""
 
     def test_sides_without_effect(self) -> None:
         lines = ["new #0 d", "fire #0 ok 1", "run #0", "set #0 ok 1", "run #0", "set #0 ok 1", "run #0", "set #0 ok 2"]

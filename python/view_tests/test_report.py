@@ -342,7 +342,7 @@ class OfJournals(unittest.TestCase):
 
 
 class OfFacts(unittest.TestCase):
-    """What is told exactly is believed, whatever the lines seem to say."""
+    """What `--json` says exactly is believed, whatever the lines seem to say."""
 
     def test_a_list_hangs_on_its_children(self) -> None:
         lines = ["new #0 d", "new #1 d", "new #2 d", "add #0", "add #1"]

@@ -1,4 +1,4 @@
-"""Answers requests until its input ends. Of what it does first, some is left standing, and comes to its end much later."""
+"""Answers requests until its input ends. Some of what it does first is left, and ends much later."""
 
 import sys
 

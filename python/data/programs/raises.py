@@ -1,4 +1,4 @@
-"""An error leaves it, and its own hook is told of that."""
+"""An error leaves it, and its own hook gets that."""
 
 import sys
 

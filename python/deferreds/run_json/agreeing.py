@@ -3,7 +3,7 @@
 Compared are which side each line lies in, what became of each Deferred, by which line it was fired, and what is left, in
 its order, with the names of Deferreds and objects and the values of queues. Left out of this is what lines don't say:
 children of lists, who is chained to whom, for whom a loop's turn waits, how many bodies a task has left; a timer whose
-Deferred was fired and hasn't used all of its pairs; a loop whose turn isn't over, where somebody has fired its Deferred,
+Deferred was fired and hasn't used all of its pairs; a loop whose turn isn't over, where other code has fired its Deferred,
 or the run has stopped; what the last line of a run that has stopped was to change; an await of a Deferred whose side runs
 at the end. Where a line names one of several objects of a name, the fold takes its number from the facts, and where they
 don't say it either, only the Deferreds are compared.

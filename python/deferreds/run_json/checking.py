@@ -1,4 +1,4 @@
-"""What `--json` tells of a run, held against what `./deferreds` prints of it."""
+"""What `--json` prints of a run, compared with what `./deferreds` prints of it."""
 
 from __future__ import annotations
 
@@ -71,7 +71,7 @@ _MOST_DIFFERENCES = 5
 
 
 class Wrong(Exception):
-    """What is told isn't what it has to be."""
+    """What is printed isn't what it has to be."""
 
 
 @dataclass(frozen=True)
@@ -125,7 +125,7 @@ def _of_type(lines: Sequence[Told], kind: str) -> List[Told]:
 
 def _equal(what: str, told: object, expected: object) -> None:
     if told != expected:
-        raise Wrong(f"{what}: {told!r} is told, and not {expected!r}")
+        raise Wrong(f"{what}: {told!r} is printed, and not {expected!r}")
 
 
 def check_form(lines: Sequence[Told]) -> None:
@@ -182,7 +182,7 @@ def check_run(script: str, printed: Ran, told: Ran) -> List[Told]:
     _equal("standard error", told.errors, printed.errors)
     lines = read_lines(told.output)
     if printed.status > 1:
-        _equal("what is told of a refused script", lines, [])
+        _equal("what is printed of a refused script", lines, [])
         return lines
     check_form(lines)
     _equal("the lines", joined(lines), printed.output)

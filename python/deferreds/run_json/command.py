@@ -49,7 +49,7 @@ class Checks:
             print(f"{name}: {wrong}\n{script}")
 
     def check_row(self, row: Expected) -> None:
-        """A row: its output is what is told, line by line."""
+        """A row: its output is what is printed, line by line."""
         told = run(self._told, row.script)
         printed = "\n".join(filled(row.output.split("\n"), _joined(told).split("\n")))
         self._check(f"{row.file}: {row.name}", row.script, Ran(row.status, printed, row.errors), told)

@@ -27,7 +27,7 @@ class NotUsable(Exception):
 
 
 class Listed(NamedTuple):
-    """A line of the list: what the recording is called, if there is one, and what was told of the test."""
+    """A line of the list: what the recording is called, if there is one, and what was printed of the test."""
 
     name: str
     said: str

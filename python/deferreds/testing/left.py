@@ -38,7 +38,7 @@ class Recording(NamedTuple):
     files: Dict[str, str]
 
     def told(self, failed: bool) -> str:
-        """What is told of the test, in a few words."""
+        """What is printed of the test, in a few words."""
         parts = ["failed"] if failed else []
         if self.left:
             more = len(self.left) - _MOST_SHOWN

@@ -110,7 +110,7 @@ class Recording:
             self._test.failed = True
 
     def pytest_terminal_summary(self, terminalreporter: Any) -> None:
-        """What was left is told, a line a test."""
+        """What was left is printed, a line a test."""
         told = self._tests.told() if self._is_first else []
         if told:
             terminalreporter.section("deferreds")

@@ -52,7 +52,7 @@ class RecordedTests:
     """A run of tests that leaves recordings in a folder."""
 
     def __init__(self, folder: Path, plain: str = "", is_first: bool = True) -> None:
-        """`plain` names the kinds of objects that are told as the Python that they are made of, with commas between them.
+        """`plain` names the kinds of objects that are recorded as the Python that they are made of, with commas between them.
 
         `is_first` is false for a further process of the same run. Raises NotUsable, and UnknownTwisted.
         """
@@ -60,7 +60,7 @@ class RecordedTests:
         if unknown:
             raise NotUsable(f"there is no kind {', '.join(sorted(unknown))}; the kinds are {', '.join(sorted(KINDS))}")
         self._kinds = KINDS - set(plain.split(","))
-        #: what was told, and couldn't be written to the list
+        #: what was printed, and couldn't be written to the list
         self._unwritten: List[str] = []
         install()
         self._folder = Folder(folder)
@@ -74,7 +74,7 @@ class RecordedTests:
         return test
 
     def end(self, test: RecordedTest) -> None:
-        """A test has ended: its recording is written if it failed or left something behind, and is told. Nothing is raised."""
+        """A test has ended: its recording is written if it failed or left something behind, and is named. Nothing is raised."""
         if test in _running:
             del _running[_running.index(test) :]
         recorder = test.recorder
@@ -108,7 +108,7 @@ class RecordedTests:
             self._unwritten.append(said)
 
     def told(self) -> List[str]:
-        """What was told of the tests, a line each."""
+        """What was printed of the tests, a line each."""
         try:
             listed = [one.said for one in self._folder.listed()]
         except OSError as error:

@@ -21,7 +21,7 @@ _MOST_SCRIPT = 2_000
 
 
 class Progress:
-    """Says how far a long run is: on a terminal in one line that is written anew, elsewhere by a line each `seconds` seconds,
+    """Says how far a long run is: on a terminal in one line that is overwritten, elsewhere by a line each `seconds` seconds,
     or by none where these are 0."""
 
     def __init__(
@@ -44,7 +44,7 @@ class Progress:
         print(f"{before}{text}", end=after, file=self._stream, flush=True)
 
     def clear(self) -> None:
-        """Makes room on a terminal for what is told next."""
+        """Makes room on a terminal for what is printed next."""
         if self._on_terminal:
             print("\r\x1b[K", end="", file=self._stream, flush=True)
 

@@ -51,7 +51,7 @@ def _between_drains(output: str) -> List[Batch]:
 
 
 def _untold(root: Any, output: str) -> Batch:
-    """The posts that no line tells of."""
+    """The posts that no line names."""
     told = {post for batch in _between_drains(output) for post in batch}
     posts = [(c, k) for c, bodies in enumerate(root["callers"]) for k in range(len(bodies))]
     return [post for post in posts if post not in told]

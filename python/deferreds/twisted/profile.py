@@ -1,4 +1,4 @@
-"""The entries of docs/TWISTED.md that a run can come to, by the names that they have there."""
+"""The entries of docs/TWISTED.md that a run can reach, by the names that they have there."""
 
 from __future__ import annotations
 

@@ -19,7 +19,7 @@ ROWS = FOLDER / "twisted.rows"
 
 
 class Quirky(Exception):
-    """A script on which Twisted comes to an entry of the profile: no row of agreement can be made of it."""
+    """A script on which Twisted reaches an entry of the profile: no row of agreement can be made of it."""
 
 
 def rules(path: Path = RULES) -> Iterator[Tuple[str, str]]:

@@ -1,4 +1,4 @@
-"""Runs a script on real Twisted: the script is the program, and what Twisted does is told by the instruments."""
+"""Runs a script on real Twisted: the script is the program, and the instruments log what Twisted does."""
 
 from __future__ import annotations
 
@@ -113,7 +113,7 @@ def _part(part: Part) -> str:
 
 
 class Job:
-    """What a job has come to, and who is told of it at a time of the clock."""
+    """The result of a job, and what gets it at a time of the clock."""
 
     def __init__(self, done: Callable[[bool, object], None], success: bool, result: object) -> None:
         self._done = done
@@ -121,7 +121,7 @@ class Job:
         self._result = result
 
     def deliver(self) -> None:
-        """Tells what it has come to."""
+        """Reports its result."""
         self._done(self._success, self._result)
 
 
@@ -132,7 +132,7 @@ class Pool:
         self.jobs: List[Job] = []
 
     def callInThreadWithCallback(self, done: Callable[[bool, object], None], f: Any) -> None:
-        """Does a job, and keeps what it comes to."""
+        """Runs a job, and keeps its result."""
         try:
             job = Job(done, True, f())
         except Exception:
@@ -252,7 +252,7 @@ class Player:
             self._telling(lambda: self._action(event, None))
 
     def _telling(self, happen: Callable[[], object]) -> None:
-        """What fails here is told, and the run goes on."""
+        """What fails here is logged, and the run goes on."""
         self.teller.begin_event()
         try:
             happen()
@@ -780,7 +780,7 @@ def run(data: bytes, batches: Optional[Batches] = None) -> Run:
 
 
 def be_quiet() -> None:
-    """Has Twisted log and warn of nothing, since what happens is told."""
+    """Has Twisted log and warn of nothing, since what happens is in the journal."""
     warnings.simplefilter("ignore")
     globalLogBeginner.beginLoggingTo([], redirectStandardIO=False, discardBuffer=True)
     sys.unraisablehook = _tell_unraisable

@@ -1,10 +1,10 @@
 """Who watches Twisted, and tells what happens as lines of a journal.
 
-The instruments (`deferreds.twisted.instruments`) change Twisted's classes so that each thing that happens is told to the
+The instruments (`deferreds.twisted.instruments`) change Twisted's classes so that each thing that happens is reported to the
 observer that is on, and is done by Twisted's own code. Where no observer is on they change nothing.
 
 A call from the program into Twisted is an *action*. What the program is called back for is a *body*. While Twisted's own
-code performs an action the observer is `quiet`: lines are told, and what Twisted calls is no action of the program's. What
+code runs an action the observer is `quiet`: lines are logged, and what Twisted calls is no action of the program's. What
 a finalizer of the program's calls meanwhile is one all the same, so whether the observer is quiet is asked where it matters.
 """
 
@@ -73,7 +73,7 @@ def count_elsewhere() -> None:
 
 
 def refuse_elsewhere(deferred: Any) -> None:
-    """A Deferred is used where no observer is on: one that is told must not be used in another thread."""
+    """A Deferred is used where no observer is on: one that is recorded must not be used in another thread."""
     if not observers_on:
         return
     known: Optional[Tuple[Union[Observer, Settled], Record]] = deferred._dv_record
@@ -242,20 +242,20 @@ class Time:
 class Action(List[Any]):
     """An action of the program: a word of the language, and what it was given.
 
-    Among the parts of lines it is a whole line: that its helper is made, which is told only of an action that has one.
+    Among the parts of lines it is a whole line: that its helper is made, which is logged only for an action that has one.
     """
 
     #: the failure that it raised, as a line shows it, and whether its body went on after that
     raised: Optional[str] = None
     caught = False
-    #: the Deferred of the inline body in which such a one is told
+    #: the Deferred of the inline body in which such a one is logged
     helper: Optional[Record] = None
 
 
 class Advance(Action):
     """The action by which time goes on to what the reactor runs, or to what comes from elsewhere.
 
-    Among the parts of lines it is a whole line. Whether it is told, and with what times, is known when the run is over.
+    Among the parts of lines it is a whole line. Whether it is logged, and with what times, is known when the run is over.
     """
 
     def __init__(self) -> None:
@@ -296,7 +296,7 @@ def weight(line: Iterable[Optional[Part]]) -> int:
 class Frame:
     """A run of a body: `kind` is the kind of body, or `event` for the program itself."""
 
-    #: how it ended, where that is noted, and of an inline body whether its end was told
+    #: how it ended, if that is noted, and for an inline body whether its end was logged
     end: Any = None
     has_fired = False
     #: of an inline body
@@ -318,7 +318,7 @@ class Frame:
 
 
 class Expected:
-    """What is to be done with the next Deferred that is made: it gets this name, and `made` is told of it."""
+    """What is to be done with the next Deferred that is made: it gets this name, and `made` is called with it."""
 
     def __init__(
         self,
@@ -371,7 +371,7 @@ def _take_off(lineage: object) -> None:
 
 
 class Settled(NamedTuple):
-    """In place of the observer that knows a Deferred: that it is told as settled, though Twisted keeps its failure in it."""
+    """In place of the observer that knows a Deferred: that it is recorded as settled, though Twisted keeps its failure in it."""
 
     observer: "Observer"
 
@@ -409,9 +409,9 @@ class Observer:
     gave: Optional[Outcome] = None
     #: the inline bodies that are being cancelled
     cancelling: Tuple[Record, ...] = ()
-    #: the number of Python for the failure that was told last, by the event that happens
+    #: the number of Python for the failure that was logged last, by the event that happens
     _told: Optional[int] = None
-    #: the body of the turn that Twisted is about to perform
+    #: the body of the turn that Twisted is about to run
     turn: Any = None
 
     def __init__(
@@ -430,9 +430,9 @@ class Observer:
         self.tell_line: Callable[[Sequence[Optional[Part]]], None] = self.parts.extend
         self.records: List[Record] = []
         self.top = self.frame = Frame("event") if top is None else top
-        #: whether Twisted's own code performs an action; where it doesn't, nobody has to ask whether this is `quiet`
+        #: whether Twisted's own code runs an action; if it doesn't, nothing has to ask whether this is `quiet`
         self.acting = False
-        #: where Twisted did what an entry of docs/TWISTED.md names: how many parts were told before, and the entry
+        #: where Twisted did what an entry of docs/TWISTED.md names: how many parts were logged before, and the entry
         self.quirks: List[Tuple[int, Entry]] = []
         #: the told time, where the clock is a real reactor
         self.pace: Any = None
@@ -459,7 +459,7 @@ class Observer:
 
     @property
     def quiet(self) -> bool:
-        """Whether it is Twisted's own code that calls the instrument which asks, while it performs an action."""
+        """Whether it is Twisted's own code that calls the instrument which asks, while it runs an action."""
         return self.acting
 
     # lines
@@ -469,7 +469,7 @@ class Observer:
         self.tell_line((*parts, None))
 
     def quirk(self, entry: Entry, place: Optional[int] = None) -> None:
-        """Notes that Twisted does here, or where so many parts are told, what an entry of the profile names."""
+        """Notes that Twisted does here, or where so many parts are logged, what an entry of the profile names."""
         self.quirks.append((len(self.parts) if place is None else place, entry))
 
     def problem(self, reason: str, kind: Optional[str] = None) -> None:
@@ -481,11 +481,11 @@ class Observer:
 
     @contextlib.contextmanager
     def undoing(self, record: Record) -> Iterator[None]:
-        """Has a Deferred keep what it had, where what is told here isn't told any more."""
+        """Has a Deferred keep what it had, if what is logged here isn't logged any more."""
         yield
 
     def begin_event(self) -> None:
-        """Something happens of its own: what fails in it is told, though the like was told before."""
+        """Something happens of its own: what fails in it is logged, though the like was logged before."""
         self._told = None
 
     def tell_unhandled(self, error: BaseException) -> None:
@@ -495,7 +495,7 @@ class Observer:
             self.tell("unhandled ", self.texts.failure(error))
 
     def is_told(self, error: BaseException) -> bool:
-        """Whether this is the failure that was told last, by the event that happens."""
+        """Whether this is the failure that was logged last, by the event that happens."""
         return id(error) == self._told
 
     # Deferreds
@@ -531,7 +531,7 @@ class Observer:
         deferred._dv_record = (Settled(self), record)
 
     def is_settled(self, deferred: Any) -> bool:
-        """Whether a Deferred is told as settled, though Twisted keeps its failure in it."""
+        """Whether a Deferred is recorded as settled, though Twisted keeps its failure in it."""
         known = deferred._dv_record
         return known is not None and isinstance(known[0], Settled) and known[0].observer is self
 
@@ -539,7 +539,7 @@ class Observer:
         """Notes where the program makes a Deferred, or Twisted's own code for it, if it is named by that."""
 
     def make(self, deferred: Deferred[Any]) -> None:
-        """The program has made a Deferred that has no canceller, while it performs no action."""
+        """The program has made a Deferred that has no canceller, while it runs no action."""
         record = Record(self.frame)
         self.keep(deferred, record)
         self.locate(record)
@@ -609,7 +609,7 @@ class Observer:
     # actions and bodies
 
     def begin_plain(self, action: Action, inside: int) -> Any:
-        """The program performs an action in which none of its code is called, while it performs no other. Gives what ends it.
+        """The program runs an action in which none of its code is called, while it runs no other. Gives what ends it.
 
         So many frames, from the caller's on, are known not to be the program's.
         """
@@ -630,7 +630,7 @@ class Observer:
 
     @switching
     def own(self, call: Callable[..., Any], *args: Any) -> Any:
-        """Has Twisted's own code run, as a part of an action that is performed or of a body that runs."""
+        """Has Twisted's own code run, as a part of an action or of a body that runs."""
         acting, self.acting = self.acting, True
         try:
             return call(*args)
@@ -677,7 +677,7 @@ class Observer:
         return kind
 
     def depth_of(self, body: Any) -> int:
-        """In how many others a body lies, as it is told."""
+        """In how many others a body lies, as it is logged."""
         return 0
 
     def begin_body(

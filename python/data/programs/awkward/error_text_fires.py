@@ -1,4 +1,4 @@
-"""An error whose text fires a Deferred of the program's, which is so fired by whoever asks for the text."""
+"""An error whose text fires a Deferred of the program's, so the code that asks for the text fires it."""
 
 from twisted.internet import defer
 

@@ -11,7 +11,7 @@ results.addCallback(len)
 
 @defer.inlineCallbacks
 def collected():
-    """Gives what a DeferredList has come to."""
+    """Returns the result of a DeferredList."""
     results = yield defer.DeferredList([defer.fail(ValueError("no"))], consumeErrors=True)
     return results
 

@@ -7,7 +7,7 @@ closed.addCallback(str.upper)
 
 
 def rows():
-    """Gives rows, and tells of its end."""
+    """Yields rows, and reports its end."""
     try:
         yield "row"
     finally:

@@ -43,7 +43,7 @@ class Hostile:
 
 
 class HostileText(str):
-    """A text that tells of each question."""
+    """A text that reports each question."""
 
     def __str__(self):
         tell()
@@ -55,7 +55,7 @@ class HostileText(str):
 
 
 class HostileList(list):
-    """A list that tells of each question."""
+    """A list that reports each question."""
 
     def __iter__(self):
         tell()

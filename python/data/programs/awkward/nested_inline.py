@@ -1,4 +1,4 @@
-"""Sixty functions with inlineCallbacks that await each other: deeper than a script may be, unless they are told as what they are."""
+"""Sixty functions with inlineCallbacks that await each other: deeper than a script may be, unless they are recorded as what they are."""
 
 from twisted.internet import defer
 

@@ -1,18 +1,17 @@
 """`./conform [--rows] [--random N --seed S] [--script FILE] [--level LEVEL] [--orders] -- COMMAND..`: compares an implementation with `deferreds`.
 
-COMMAND reads a script on standard input, and prints journal and outcomes, as `./on_twisted` does. Each difference is
-told by its first line; where Twisted does as COMMAND does, and `docs/TWISTED.md` has an entry for that, the entry is
-named, and the run counts as passed. The last line is `N passed, M failed`, and the status is 0 exactly where M is 0.
+COMMAND reads a script on standard input, and prints journal and outcomes, as `./on_twisted` does. The first line of each difference is
+printed. If Twisted does as COMMAND does, and `docs/TWISTED.md` has an entry for that, the entry is named, and the run counts as passed.
+The last line is `N passed, M failed`, and the status is 0 exactly if M is 0.
 
-With --orders a script with posts is compared in every order in which they may be taken, and not in the one that happened.
-Where it has more than --most N, it is compared in N of them, spread evenly; where it has more than --sample K, in K that
---seed S draws, as `./deferreds --orders --sample K --seed S` does. A difference is reported with its order.
+With --orders a script with posts is compared in every order in which they may be taken, and not in the one that happened. If it has
+more than --most N, it is compared in N of them, spread evenly; if it has more than --sample K, in K that --seed S draws, as
+`./deferreds --orders --sample K --seed S` does. A difference is printed with its order.
 
-A COMMAND that ends early, or gives no answer within the time, fails that run, and is told with the script. After
-{late} scripts in a row without an answer in time no more are asked, nor after the first {unanswered} where none was
-answered.
+A COMMAND that ends early, or doesn't answer in time, fails that run, and is reported with the script. After {late} scripts in a row
+without an answer in time no more are asked, nor after the first {unanswered} if none was answered.
 
-Status 1: a run failed; 4: standard output can't be written; 64: the words are wrong; 66: the file of a script can't be
+Status 1: a run failed; 4: standard output can't be written; 64: the arguments are wrong; 66: the file of a script can't be
 read; 70: a program can't be run, or Twisted isn't known.
 """
 
@@ -84,14 +83,14 @@ def _arguments(words: List[str]) -> argparse.Namespace:
         "--level",
         choices=list(grammar.LEVELS),
         default=list(grammar.LEVELS)[-1],
-        help="only what this level and those before it have (all)",
+        help="only what this level and those before it have (default: all)",
     )
     add("--no-refusals", action="store_true", help="leave out the rows whose scripts are refused")
     add("--orders", action="store_true", help="compare a script with posts in every order of them")
-    add("--most", type=_most, metavar="N", help=f"with --orders: in N orders of a script at most ({_ORDERS})")
-    add("--sample", type=_most, metavar="K", help="with --orders: in K orders at most, which are drawn where a script has more")
-    add("--all", action="store_true", help="tell of the differences that have an entry, too")
-    add("--show", type=_shown, metavar="N", default=_SHOWN, help=f"show N differences at most, or `all` ({_SHOWN})")
+    add("--most", type=_most, metavar="N", help=f"with --orders: in at most N orders of a script ({_ORDERS})")
+    add("--sample", type=_most, metavar="K", help="with --orders: in at most K orders, which are drawn if a script has more")
+    add("--all", action="store_true", help="also show the differences that have an entry")
+    add("--show", type=_shown, metavar="N", default=_SHOWN, help=f"show at most N differences, or `all` ({_SHOWN})")
     add("--many", action="store_true", help="COMMAND takes --many, as docs/PORTING.md says")
     add(
         "--timeout",
@@ -105,11 +104,11 @@ def _arguments(words: List[str]) -> argparse.Namespace:
         type=_seconds,
         metavar="SECONDS",
         default=_PROGRESS,
-        help=f"where standard error is no terminal, say there each so many seconds how far it is; 0: never ({_PROGRESS:g})",
+        help=f"if standard error is no terminal, print the progress there every so many seconds; 0: never ({_PROGRESS:g})",
     )
-    add("--ours", metavar="COMMAND", help="our program (deferreds, as it is built or installed)")
-    add("--trials", type=int, default=1_000, help="runs at most to cut a script down (1000)")
-    add("command", nargs="+", metavar="COMMAND", help="after --: the implementation, and its words")
+    add("--ours", metavar="COMMAND", help="our program (default: deferreds, as it is built or installed)")
+    add("--trials", type=int, default=1_000, help="at most so many runs to cut a script down (1000)")
+    add("command", nargs="+", metavar="COMMAND", help="after --: the implementation, and its arguments")
     try:
         with writing():
             parsed = parser.parse_args(words)

@@ -1,10 +1,10 @@
 """`python/measure [MODULE..]`: records each test of Twisted's own modules, and compares it with `deferreds`.
 
-It prints a row a module, whose sums docs/TWISTED.md has. The status is 0 exactly where each test passes under the recorder that passes
-without it, but for those that compare attributes that the recorder sets, and no difference lacks an entry in
+It prints a row a module, whose sums docs/TWISTED.md has. The status is 0 exactly if each test that passes without the recorder passes
+under it, except those that compare attributes that the recorder sets, and no difference lacks an entry in
 docs/TWISTED.md; 70: a module can't be loaded, the program can't be run, or Twisted isn't known. `python/measure --slower`
-prints how much slower a program is that is recorded, and `python/measure --slower-tests [MODULE..]` each test. In the
-place of a module a package can be named, for all of its modules `test_*`.
+prints how much slower a recorded program is, and `python/measure --slower-tests [MODULE..]` each test. A package in the place
+of a module stands for all of its modules `test_*`.
 """
 
 from __future__ import annotations

@@ -1,7 +1,7 @@
 """`on_twisted < SCRIPT`: runs the script on real Twisted, and prints journal and outcomes as `deferreds` does.
 
-Status 0: all events were performed; 1: the run stopped at the limit of its journal; 2: the script is refused, which
-standard error tells; 4: standard input or output failed; 64: the words are wrong; 70: Twisted isn't there or isn't known.
+Status 0: all events ran; 1: the run stopped at the limit of its journal; 2: the script is refused, for the reason on
+standard error; 4: standard input or output failed; 64: the arguments are wrong; 70: Twisted isn't there or isn't known.
 """
 
 from __future__ import annotations
@@ -19,7 +19,7 @@ from ..script import Refused
 
 Answer = Tuple[int, bytes, bytes]
 
-#: the status where standard input can't be read, which is that of `deferreds`
+#: the status if standard input can't be read, which is that of `deferreds`
 _NOT_READ = 4
 
 

@@ -1,29 +1,29 @@
-"""`./record [OPTION..] PROGRAM [ARGS..]`: runs a program that uses Twisted, and tells the run as a script and a journal.
+"""`./record [OPTION..] PROGRAM [ARGS..]`: runs a program that uses Twisted, and writes its run as a script and a journal.
 
 `-m MODULE` runs a module, and `--test MODULE.CLASS.METHOD` one test. All words after PROGRAM or MODULE are the program's. PROGRAM
-is a file, or the name of a Python script on the PATH. The program runs as it is.
-Times are those of the real reactor, unless `--virtual` puts another in its place; how long a tick of the script's clock is, is told.
+is a file, or the name of a Python script on the PATH. The program runs as it is. Times are those of the real reactor, unless
+`--virtual` puts another in its place; the command prints how long a tick of the script's clock is.
 
-NAME.json is the script. NAME.journal is the journal and the outcomes as real Twisted gave them. NAME.places.json says where in the
-program it happened. `--view` writes NAME.html, a page of the run, too. NAME.recording lists these files. Without -o, NAME is what PROGRAM or MODULE is called, in the folder
-where the command is given. A file of another origin is only overwritten with -f. What a script can't say is refused
-with the reason and the place in the program, and only the journal and the page are written.
+NAME.json is the script. NAME.journal is the journal and the outcomes by real Twisted. NAME.places.json says where in the program
+it happened. `--view` also writes NAME.html, a page of the run. NAME.recording lists these files. Without -o, NAME is the name of
+PROGRAM or MODULE, in the current folder. A file of another origin is only overwritten with -f. What no script can express is refused,
+with the reason and the place in the program; only the journal and the page are then written.
 
-The run is kept where the program ends by Ctrl-C, by a signal that it doesn't handle, or by os._exit, too. SIGUSR1 has the run so far
-written, and the program goes on. A forked child writes files of its own, NAME.PID.json and so on. Where a run is too long for a
-script, or ends in the midst of an event, NAME.json is of its beginning, and NAME.whole.journal is its whole journal.
+The run is also kept if the program ends by Ctrl-C, by a signal that it doesn't handle, or by os._exit. At SIGUSR1 the run so far is
+written, and the program goes on. A forked child writes its own files, NAME.PID.json and so on. If a run is too long for a script, or
+ends in the midst of an event, NAME.json is of its beginning, and NAME.whole.journal is its whole journal.
 
 `--last N` is for a program that runs for days. NAME is of its last events, about N at most, and NAME.before of as many before these.
-What was before that is forgotten. Each script begins with the Deferreds as they stood then. Loops, delayed calls and tasks from
-before are told as the Python that they are made of, and so are locks and queues.
+What was before that is forgotten. Each script begins with the Deferreds in their state at that time. Loops, delayed calls and tasks
+from before are recorded as the Python that they are made of, and so are locks and queues.
 
-Where `./deferreds` is there, it runs the script, and its lines are compared with those of the run. Where they differ, and
-docs/TWISTED.md has no entry for that, no script is left.
+If `./deferreds` is there, it runs the script, and its lines are compared with those of the run. If they differ, and docs/TWISTED.md
+has no entry for that, no script is kept.
 
-The status is the program's own, and a program that is ended by a signal ends this command by it. Where the program has ended with
-0: 0: recorded; 65: refused; 66: nothing was recorded; 73: a file couldn't be written. With --test the status is 1 where
-the test has failed. Where nothing is run: 64: the words are wrong; 66: there is no such program; 70: Twisted isn't there or
-isn't known; 73: a file can't be written.
+The status is the program's own, and a program that is ended by a signal ends this command by it. If the program ended with status 0:
+0: recorded; 65: refused; 66: nothing was recorded; 73: a file couldn't be written. With --test the status is 1 if the test failed.
+If nothing was run: 64: the arguments are wrong; 66: there is no such program; 70: Twisted isn't there or isn't known; 73: a file
+can't be written.
 """
 
 from __future__ import annotations
@@ -69,7 +69,7 @@ class Refused(Exception):
 
 
 def _arguments(words: List[str]) -> argparse.Namespace:
-    """The words, understood. Raises SystemExit where they are wrong, with status 64, or ask for help."""
+    """Parses the arguments. Raises SystemExit if they are wrong, with status 64, or ask for help."""
     parser = argparse.ArgumentParser(
         prog=command_name("record"),
         description=as_called(__doc__),
@@ -78,19 +78,19 @@ def _arguments(words: List[str]) -> argparse.Namespace:
     )
     add = parser.add_argument
     add("-o", dest="output", metavar="NAME", help="write NAME.json and NAME.journal")
-    add("-f", dest="overwrites", action="store_true", help="overwrite files that aren't those of a recording, too")
+    add("-f", dest="overwrites", action="store_true", help="also overwrite files that aren't those of a recording")
     add("-m", dest="module", nargs=argparse.REMAINDER, metavar="MODULE [ARGS..]", help="run a module")
     add("--test", metavar="MODULE.CLASS.METHOD", help="run one test")
-    add("--view", action="store_true", help="write NAME.html, a page of the run (docs/VIEW.md), too")
-    add("--last", type=_count, metavar="N", help="keep the last events, as NAME up to N of them and as NAME.before the N before these")
-    add("--virtual", action="store_true", help="with a reactor whose time is virtual")
+    add("--view", action="store_true", help="also write NAME.html, a page of the run (docs/VIEW.md)")
+    add("--last", type=_count, metavar="N", help="keep the last events: up to N of them as NAME, and the N before these as NAME.before")
+    add("--virtual", action="store_true", help="run on a reactor whose time is virtual")
     add(
         "--plain",
         metavar="KIND,..",
         default="",
-        help=f"tell these as the Python that they are made of: {', '.join(sorted(KINDS))}",
+        help=f"record these as the Python that they are made of: {', '.join(sorted(KINDS))}",
     )
-    add("--redact", metavar="WHAT", default=SECRETS, help="hide `all` values, those that look like `secrets` (so by itself), or `none`")
+    add("--redact", metavar="WHAT", default=SECRETS, help="hide `all` values, those that look like `secrets` (the default), or `none`")
     add("program", nargs=argparse.REMAINDER, metavar="PROGRAM [ARGS..]")
     try:
         parsed = parser.parse_args(_detached(words))
@@ -110,7 +110,7 @@ def _count(word: str) -> int:
 
 
 def _detached(words: List[str]) -> List[str]:
-    """The words, where `-mMODULE`, as Python takes it, is two of them."""
+    """The arguments, with `-mMODULE`, which Python accepts, as two of them."""
     takes_word = ("-o", "--test", "--plain", "--redact", "--last")
     before = ""
     for place, word in enumerate(words):

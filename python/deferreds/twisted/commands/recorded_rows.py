@@ -1,6 +1,6 @@
-"""`python/recorded_rows [--check]`: makes crates/test_rows/data/twisted.rows anew, from what real Twisted gives.
+"""`python/recorded_rows [--check]`: writes crates/test_rows/data/twisted.rows from the output of real Twisted.
 
-With `--check` nothing is written, and the status is 0 exactly where the file is what Twisted gives.
+With `--check` nothing is written, and the status is 0 exactly if the file is that output.
 """
 
 from __future__ import annotations

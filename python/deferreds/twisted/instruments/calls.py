@@ -76,7 +76,7 @@ def _move_on_clock(
     now = watcher.now()
     due = now + seconds if action[0] == "resetCall" else call.getTime() - watcher.clock_base + seconds
     if seconds < 0:
-        # the language has no delay below 0: it is told by how much later than now the call is due
+        # the language has no delay below 0: what is recorded is by how much later than now the call is due
         action[0], action[2] = "resetCall", Time(max(0, due - now))
         if due < now:
             watcher.problem(f"a delayed call is moved to a time that is past ({how.__name__})", "clock")

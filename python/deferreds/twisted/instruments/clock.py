@@ -35,7 +35,7 @@ class Own(NamedTuple):
     line: Line
     #: of the pace, and of the delay in seconds
     wait: Callable[[Pace, float], Waiting]
-    #: is told of the delay, as it will be told
+    #: gets the delay, as it will be recorded
     note: Callable[[Time], None]
 
 
@@ -44,7 +44,7 @@ own_calls: List[Callable[[Observer, Callable[..., Any]], Optional[Own]]] = []
 
 
 def own_call(watcher: Observer, f: Callable[..., Any]) -> Optional[Own]:
-    """What Twisted schedules by this function, if that is told."""
+    """What Twisted schedules by this function, if that is recorded."""
     return next(filter(None, (find(watcher, f) for find in own_calls)), None)
 
 
@@ -80,7 +80,7 @@ def is_time(seconds: object) -> bool:
 
 
 def schedule(clock: task.Clock, delay: float, f: Callable[[], object]) -> Any:
-    """Schedules a call, of which nothing is told."""
+    """Schedules a call, of which nothing is recorded."""
     return _later(clock, delay, f)
 
 
@@ -166,7 +166,7 @@ def run_delayed(
 def tell_due(
     watcher: Observer, clock: Optional[task.Clock], line: Line, happen: Callable[[], object]
 ) -> object:
-    """Tells that something is due, and has it happen. An error that leaves it is told."""
+    """Tells that something is due, and has it happen. An error that leaves it is logged."""
     watcher.begin_event()
     watcher.tell(*line)
     try:
@@ -199,7 +199,7 @@ def _tell_advance(watcher: Observer, clock: task.Clock, amount: float) -> None:
 
 
 def run_due(clock: task.Clock) -> None:
-    """Runs what is due and hasn't run, since an error has left the advance, and tells of no advance."""
+    """Runs what is due and hasn't run, since an error has left the advance, and logs no advance."""
     _advance(clock, 0)
 
 

@@ -72,12 +72,12 @@ _NO_KEYWORDS: Dict[str, Any] = {}
 #: the arguments of the callback and of the errback of a pair, each with those that have keywords
 PairArguments = Tuple[Any, Any, Any, Any]
 
-#: the runs of callbacks that are under way, each with those that handed a value over in it, and where that is told
+#: the runs of callbacks that are under way, each with those that handed a value over in it, and where that is logged
 _givers: List[List[Tuple[Deferred[Any], int]]] = []
 
 Canceller = Callable[[Deferred[Any]], Any]
 
-#: adds a pair of Twisted's own that is told otherwise than others, unless it isn't such a one after all
+#: adds a pair of Twisted's own that is recorded otherwise than others, unless it isn't such a one after all
 AddSpecial = Callable[
     [Observer, Deferred[Any], Record, Callable[..., Any], Callable[..., Any], PairArguments], bool
 ]
@@ -85,7 +85,7 @@ AddSpecial = Callable[
 #: the functions that make the Deferred of an inline body, and the hidden one of a cancelled one where that isn't in it
 _MAKERS_OF_INLINE = ("_cancellableInlineCallbacks", "_handleCancelInlineCallbacks")
 
-#: the errback by which the Deferred of a cancelled inline body comes to wait for a hidden one
+#: the errback by which the Deferred of a cancelled inline body begins to wait for a hidden one
 _HANDLERS_OF_CANCELS = ("handleCancel", "_handleCancelInlineCallbacks")
 
 #: by the names of their errbacks
@@ -471,7 +471,7 @@ def add_silently(
     errback: Callable[..., Any],
     arguments: PairArguments,
 ) -> None:
-    """Adds a pair, of which nothing is told."""
+    """Adds a pair, of which nothing is recorded."""
     _add_callbacks(deferred, callback, errback, *arguments)
 
 
@@ -725,7 +725,7 @@ def _fire(
 
 
 def _handed_on(watcher: Observer, deferred: Deferred[Any], record: Record, result: object) -> Outcome:
-    """What Twisted hands on shows what it had when it was told last, though the program has changed it since."""
+    """What Twisted hands on shows what it had when it was logged last, though the program has changed it since."""
     passing = watcher.frame.passing
     if passing is not None and passing[0] is result and type(result) is list:
         return passing[1]
@@ -736,7 +736,7 @@ def _handed_on(watcher: Observer, deferred: Deferred[Any], record: Record, resul
 def _came_to(
     deferred: Any, came: Dict[int, Outcome], passing: Optional[Tuple[object, Outcome]], result: object
 ) -> Optional[Outcome]:
-    """What a DeferredList is fired with, by what its children came with; None, where somebody else has made it."""
+    """What a DeferredList is fired with, by what its children came with; None, if other code has made it."""
     if type(result) is tuple and len(result) == 2 and passing is not None and result[0] is passing[0]:
         return Outcome([passing[1].value, result[1]]) if type(result[1]) is int and result[1] in came else None
     if result is deferred.resultList and len(deferred.resultList) == len(came):
@@ -759,7 +759,7 @@ def _tell_hidden_firing(
 
 
 def _instrumented_continuation(self: Deferred[Any]) -> Any:
-    """Twisted asks for this where a Deferred comes to wait for what it has."""
+    """Twisted asks for this where a Deferred begins to wait for what it has."""
     watcher = watched.observer if observers_on else None
     if watcher is not None:
         held = result_of(self)

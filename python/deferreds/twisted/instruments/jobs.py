@@ -29,7 +29,7 @@ class _Handing:
         self._watcher = watcher
         self._reactor = reactor
         self._number = number
-        #: what the job comes to, as its action has it
+        #: the result of the job, as its action has it
         self.work: List[Any] = ["value", None]
         self.waiting: Optional[Waiting] = None
 
@@ -38,7 +38,7 @@ class _Handing:
         self._reactor.callFromThread(self._come, fire, result)
 
     def _come(self, fire: Callable[[Any], None], result: Any) -> None:
-        """The result has come to the reactor."""
+        """The result has reached the reactor."""
         watcher = self._watcher
         if watched.observer is not watcher or self.waiting is None:
             fire(result)

@@ -112,7 +112,7 @@ def failed_now() -> BaseException:
 
 
 class _Log:
-    """The log of twisted.internet.defer, in which the error of a child's canceller comes to be told."""
+    """The log of twisted.internet.defer, in which the error of a child's canceller is logged."""
 
     def __init__(self, log: Any) -> None:
         self._log = log

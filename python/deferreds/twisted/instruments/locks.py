@@ -15,7 +15,7 @@ Primitive = Union[DeferredLock, DeferredSemaphore]
 
 
 def thing_of(watcher: Observer, primitive: Primitive) -> Thing:
-    """The lock or semaphore, which is told where it is met for the first time."""
+    """The lock or semaphore, which is logged where it is met for the first time."""
     known = primitive.__dict__.get("_dv_thing")
     if known is not None and known[0] is watcher:
         return known[1]  # type: ignore[no-any-return]

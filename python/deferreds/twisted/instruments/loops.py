@@ -30,7 +30,7 @@ class Known(NamedTuple):
 
 
 def _known(watcher: Optional[Observer], loop: object) -> Optional[Known]:
-    """What is known of a LoopingCall, if it is told as a loop."""
+    """What is known of a LoopingCall, if it is recorded as a loop."""
     found = getattr(loop, "_dv_loop") if isinstance(loop, task.LoopingCall) else None
     return found[1] if found is not None and found[0] is watcher else None
 

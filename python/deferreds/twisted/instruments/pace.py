@@ -15,7 +15,7 @@ from .settling import MILLISECOND, UNITS, Conflict, Entry, Loop, Step, settle
 
 #: how far apart loops may start in a body, and be told to start at one time
 _APART = 5 * MILLISECOND
-#: how long a loop is told to start before a turn that is due
+#: how long before a due turn a loop is recorded to start
 _BEFORE = 50
 #: what a turn is put off by, in seconds, for each other one that is due at its time
 _BEHIND = 5e-7
@@ -24,7 +24,7 @@ _MOST_MOVED = 0.01
 
 
 class Waiting(NamedTuple):
-    """Something that waits for the reactor's time: when it is told as due, and after what delay."""
+    """Something that waits for the reactor's time: when it is recorded as due, and after what delay."""
 
     entry: Entry
     due: Time
@@ -114,7 +114,7 @@ class Pace:
     def start_loop(self, interval: float) -> Loop:
         """A loop is about to start.
 
-        It is told to start at the next whole millisecond of the reactor's, or before a turn that is due by then, or with another that
+        It is recorded to start at the next whole millisecond of the reactor's, or before a turn that is due by then, or with another that
         the same body has just started.
         """
         step = self._steps[-1]
@@ -126,7 +126,7 @@ class Pace:
         return loop
 
     def _first_start(self) -> int:
-        """All that was scheduled until now is told to be at the beginning, which is the next millisecond."""
+        """All that was scheduled until now is recorded to be at the beginning, which is the next millisecond."""
         self._base = self._reactor.seconds() + 1 / 1000
         return 0
 
@@ -141,13 +141,13 @@ class Pace:
         since = self._reactor.seconds() + delay - looping.starttime
         number = max(1, round(since / looping.interval) - loop.missed)
         if number > 1 and len(self._steps) == 1 and self._steps[0].starts == [loop]:
-            # its first turn has blocked: the beginning is told to be after that
+            # its first turn has blocked: the beginning is recorded to be after that
             loop.missed, number = number - 1, 1
             self._base += loop.missed * loop.interval / UNITS
         return self._make(Entry(len(self._waiting), loop=loop, turn=number))
 
     def align(self, waiting: Waiting, call: Any) -> None:
-        """Has a turn be due as a whole number of intervals after its loop is told to start.
+        """Has a turn be due as a whole number of intervals after its loop is recorded to start.
 
         Twisted asks the clock twice, so that turns which fall together would run in an order that nothing but chance gives.
         """

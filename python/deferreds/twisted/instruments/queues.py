@@ -13,7 +13,7 @@ _get = DeferredQueue.get
 
 
 def thing_of(watcher: Observer, queue: DeferredQueue[Any]) -> Thing:
-    """The queue, which is told where it is met for the first time."""
+    """The queue, which is logged where it is met for the first time."""
     known = queue.__dict__.get("_dv_thing")
     if known is not None and known[0] is watcher:
         return known[1]  # type: ignore[no-any-return]

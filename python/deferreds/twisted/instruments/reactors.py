@@ -1,6 +1,6 @@
 """The instrument of real reactors: their delayed calls, and the errors that they log.
 
-A call that lies in many bodies of others is told with an empty body, and what it does is told as events that come right after
+A call that lies in many bodies of others is recorded with an empty body, and what it does is recorded as events that come right after
 its `call` line: the lines are the same, and the script isn't nested too deep.
 """
 
@@ -40,7 +40,7 @@ _INTERNET = os.path.join("twisted", "internet", "")
 
 
 def schedule_waiting(watcher: Observer, reactor: Any, delay: float, waiting: Waiting, call: Callable[[], Any]) -> Any:
-    """Schedules something of Twisted's own, whose line is told."""
+    """Schedules something of Twisted's own, whose line is logged."""
 
     def due() -> Any:
         return call() if watched.observer is not watcher else watcher.pace.run(waiting, call)

@@ -1,4 +1,4 @@
-"""What a delayed call says of its function: Twisted calls one that tells of it, and whoever else asks is given the program's."""
+"""What a delayed call says of its function: Twisted calls one that reports it, and other code that asks gets the program's."""
 
 from __future__ import annotations
 
@@ -15,7 +15,7 @@ _ADVANCE, _RUN = task.Clock.advance.__code__, base.ReactorBase.runUntilCurrent._
 
 
 def stand_for(telling: Callable[..., Any], function: Callable[..., Any]) -> None:
-    """Has a delayed call with this function, which tells of it, say that it has the program's."""
+    """Has a delayed call with this function, which reports it, say that it has the program's."""
     telling.__dict__[_STANDS_FOR] = function
 
 

@@ -1,4 +1,4 @@
-"""Works out the times that are told of a run on a real reactor.
+"""Works out the times that are recorded of a run on a real reactor.
 
 The clock of the language runs what is due by an advance, in the order of due time and of scheduling. A reactor's calls run late, and
 their times are floats. So what happened is noted in order, as steps, and times are chosen when the run is over.
@@ -69,11 +69,11 @@ class Loop:
         self.place = place
         #: how many of its turns were missed before the beginning of the told time
         self.missed = 0
-        #: the time at which it is told to start
+        #: the time at which it is recorded to start
         self.start = at
 
     def reached(self, turn: int) -> int:
-        """From what time on it is told to be that turn which the reactor has scheduled next."""
+        """From what time on it is recorded to be that turn which the reactor has scheduled next."""
         first = self.at if (self.start - self.at) % self.interval == 0 else self.start
         return first + (turn - 1) * self.interval
 
@@ -104,7 +104,7 @@ class Entry:
         self.is_tick = is_tick
         #: whether an advance goes on that may run it still
         self.inside = False
-        #: when it is told to be scheduled, and to be due
+        #: when it is recorded to be scheduled, and to be due
         self.at = 0
         self.due = 0
         #: how many advances had begun when it was scheduled, and what had run last
@@ -173,7 +173,7 @@ def settle(steps: Sequence[Step]) -> None:
 
 
 def _settled(steps: Sequence[Step], manner: Manner) -> int:
-    """Chooses all times in this manner: how many calls are told as due at another time than was asked for."""
+    """Chooses all times in this manner: how many calls are recorded as due at another time than was asked for."""
     settling = _Settling(steps, manner)
     for step in steps:
         settling.take(step)
@@ -361,13 +361,13 @@ class _Settling:
         self._last = entry.key
 
     def _squeeze(self, entry: Entry) -> None:
-        """It is told as due right after what ran last."""
+        """It is recorded as due right after what ran last."""
         due, *place = self._last
         entry.due = max(entry.at, due if [entry.order, entry.moved] > place else due + 1)
         self.moved += entry.delay is not None
 
     def _run_moved(self, step: Step, entry: Entry, first: Optional[Entry]) -> None:
-        """It is told as due when it ran, as near to the reactor's time as what else waits has room for."""
+        """It is recorded as due when it ran, as near to the reactor's time as what else waits has room for."""
         grain, now, top = self._manner.grain, self._now, None if first is None else first.due
         asked = self._asked.first_after(now)
         soft = None if asked is None else asked.due
@@ -460,7 +460,7 @@ class _Settling:
         return entry.seen < advance or (entry.seen == advance and entry.inside)
 
     def _joins(self, entry: Entry) -> bool:
-        """Whether the advance that goes on runs it next, by when it is told as due."""
+        """Whether the advance that goes on runs it next, by when it is recorded as due."""
         if not self._open or entry.due > self._now:
             return False
         if entry.key <= self._last != entry.after:  # it would have run before what ran last

@@ -1,4 +1,4 @@
-"""The instrument of Cooperator and CooperativeTask. One Cooperator of a run is told as such: the first."""
+"""The instrument of Cooperator and CooperativeTask. One Cooperator of a run is recorded as such: the first."""
 
 from __future__ import annotations
 
@@ -57,7 +57,7 @@ class Cooperating:
 
 
 class Known:
-    """A task that is told: its name, the bodies of its steps, and the Deferred that its step gave last."""
+    """A task that is recorded: its name, the bodies of its steps, and the Deferred that its step gave last."""
 
     def __init__(self, thing: Thing, steps: Any) -> None:
         self.thing = thing
@@ -193,7 +193,7 @@ def _instrumented_remove(self: Any, cooperative: Any) -> None:
 
 
 class _Asked:
-    """The iterator of a task, for one step: what its next body gives, performed as a body of the run."""
+    """The iterator of a task, for one step: what its next body returns, run as a body of the run."""
 
     def __init__(self, watcher: Observer, known: Known, iterator: Iterator[Any]) -> None:
         self.watcher = watcher

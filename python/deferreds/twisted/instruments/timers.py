@@ -1,7 +1,7 @@
 """The instrument of timers, which `Deferred.addTimeout` sets.
 
 Twisted's own function is given a clock of which it asks for one call. That is the timer, and the two pairs that come
-after it are told as pairs of Twisted's own. A timer that the language hasn't is told as a delayed call and two pairs
+after it are recorded as pairs of Twisted's own. A timer that the language hasn't is recorded as a delayed call and two pairs
 of the program's.
 """
 

@@ -37,7 +37,7 @@ class Steps:
 
 
 class Run(Frame):
-    """A run of a body: the actions that it performed, and how it ended."""
+    """A run of a body: the actions that it ran, and how it ended."""
 
     #: how it ended, or None, where its input was passed on
     end: Any = None
@@ -90,7 +90,7 @@ know_attributes(
     Run("event"), ("end", "has_fired", "record", "awaits", "outer", "present", "anonymous", "passing", "expected")
 )
 
-#: the kinds of bodies that aren't nested where their objects are told as what they are made of, and the kinds of these
+#: the kinds of bodies that aren't nested where their objects are recorded as what they are made of, and the kinds of these
 _TOLD_PLAINLY = {"inline": "inline", "call": "clock", "turn": "loop"}
 
 

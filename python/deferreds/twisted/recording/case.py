@@ -64,8 +64,8 @@ class RecordedCase:
     def __init__(self, case: unittest.TestCase, recorder: Callable[[], Optional[Recorder]], in_next_turn: bool) -> None:
         """`recorder` gives the recorder when a part begins; where it gives none, that part isn't recorded.
 
-        With `in_next_turn` trial is told in the reactor's next turn of what a part has waited for: so each part begins as an event. Else it
-        is told at once, as it is without a recorder: so the next part is in the body of the pair that tells of it.
+        With `in_next_turn` trial gets what a part has waited for in the reactor's next turn: so each part begins as an event. Else it
+        gets that at once, as without a recorder: so the next part is in the body of the pair that passes it on.
         """
         self._case = case
         self._recorder = recorder
@@ -217,7 +217,7 @@ class _Handed(Deferred[Any]):
             self._own.errback(fail)
 
     def come(self, value: Any) -> None:
-        """The test's own Deferred has come to this. A Deferred that Twisted takes for a value can't be handed on."""
+        """The test's own Deferred has this result. A Deferred that Twisted takes for a value can't be handed on."""
         if isinstance(value, Failure):
             super().errback(value)
         else:
@@ -225,7 +225,7 @@ class _Handed(Deferred[Any]):
 
 
 class _Given:
-    """What a part of a test gives back, and what its runner is told of that by."""
+    """What a part of a test returns, and by what its runner gets that."""
 
     def __init__(self, recorder: Recorder, own: Deferred[Any], in_next_turn: bool) -> None:
         self._in_next_turn = in_next_turn

@@ -1,7 +1,7 @@
 """However a process ends, or becomes another: a run is kept before it does.
 
 A program ends without Python's knowledge by `os._exit`, by another program in its place, and by a signal that nobody handles.
-Each of these is told first, while the program's memory is there. A fork and the signal SIGUSR1 are told, too.
+Each of these is reported first, while the program's memory is there. So are a fork and the signal SIGUSR1.
 SIGKILL, and a crash of Python itself, can't be.
 """
 
@@ -30,7 +30,7 @@ _REPLACING = ("execv", "execve")
 
 
 class Watcher(Protocol):
-    """What is told of the endings of a process."""
+    """What gets the endings of a process."""
 
     def ends(self, how: str, frame: Optional[FrameType]) -> bool:
         """The process ends after this call: how, and the frame of the program that runs. Raises nothing.
@@ -113,7 +113,7 @@ class Endings:
         self._exit(status)
 
     def _replacing(self, how: str, function: Callable[..., Any]) -> Callable[..., Any]:
-        """A function that puts another program in the place of this one. Where that is there, it is told before."""
+        """A function that puts another program in the place of this one. If that is there, it is reported before."""
 
         @functools.wraps(function)
         def told(path: Any, *args: Any, **kwargs: Any) -> Any:

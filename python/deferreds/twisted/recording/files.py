@@ -67,8 +67,8 @@ class Place:
     def write(self, files: Mapping[str, str], facts: Mapping[str, Any]) -> Written:
         """Writes these texts as files, by the endings of their names, and the list of them with these facts.
 
-        Files of an earlier recording of the name that aren't among them are removed. Where a file of somebody else has come to be
-        there, the number of this process follows NAME. Where nothing can be written there any more, it is written
+        Files of an earlier recording of the name that aren't among them are removed. If a file of another origin is there
+        by now, the number of this process follows NAME. If nothing can be written there any more, it is written
         into the folder for temporary files.
         """
         if self._of_others(files):

@@ -19,7 +19,7 @@ from twisted.python import context, failure, log
 
 from ..telling import is_dead_reference, looked_round, looked_round_names, switches
 
-#: the files of Twisted's code that performs actions
+#: the files of Twisted's code that runs actions
 _ACTING = {module.__file__ for module in (base, defer, task, threads, context, failure)}
 _MODULES = {module.__name__ for module in (base, defer, task)}
 #: the folders of what watches Twisted, and of Twisted's logger
@@ -33,7 +33,7 @@ CALLED = "Twisted's own code calls the program's, which uses Deferreds there"
 FINALIZED = "a finalizer or a log observer uses Deferreds inside Twisted's own code, which goes on after it"
 MEDDLED = "a finalizer or a log observer uses what Twisted's own code works on"
 
-#: which kind may be told as what it is made of, by the action that Twisted performs
+#: which kind may be recorded as what it is made of, by the action that Twisted runs
 KIND_OF_ACTION: Dict[str, str] = {
     "maybe": "maybe",
     "list": "list",
@@ -66,7 +66,7 @@ KIND_OF_ACTION: Dict[str, str] = {
 
 
 class Inside(NamedTuple):
-    """Where the program acted last inside an action: how many parts of lines were told then, the place, and whether it may."""
+    """Where the program acted last inside an action: how many parts of lines were logged then, the place, and whether it may."""
 
     told: int
     place: str
@@ -108,7 +108,7 @@ def is_entered(around: int) -> bool:
 
 
 def entry(called: int = 0) -> Optional[FrameType]:
-    """Where the program's code was entered from inside Twisted's, while that performs an action; None, where it wasn't.
+    """Where the program's code was entered from inside Twisted's, while that runs an action; None, if it wasn't.
 
     The caller's frame, and so many more around it, are known to be neither.
     """

@@ -17,7 +17,7 @@ from .messages import file_of
 from .recorder import Recorder
 from .saying import Said
 
-#: the code by which lines are told, of an event that isn't noted yet
+#: the code that logs lines, of an event that isn't noted yet
 _TELLING = {
     getattr(cls, name).__code__
     for cls in (Observer, Recorder, LastRecorder, Pace)
@@ -175,7 +175,7 @@ class Keeper:
         return max(0, len(recorder.events) - 1)
 
     def _is_under_way(self, frame: Optional[FrameType]) -> bool:
-        """Whether an event is under way, or lines of one are told that isn't noted yet."""
+        """Whether an event is under way, or lines of one are logged that isn't noted yet."""
         if frame is None:
             return False
         while frame is not None:

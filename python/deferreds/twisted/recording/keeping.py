@@ -22,7 +22,7 @@ from .saying import Said
 
 
 class Status(enum.IntEnum):
-    """What a recording came to, as the status of the command."""
+    """The result of a recording, as the status of the command."""
 
     RECORDED = 0
     REFUSED = 65
@@ -49,7 +49,7 @@ class Keeping:
         self.messages.be_of_child()
 
     def keep(self, said: Said, how: str, earlier: int = 0) -> Status:
-        """Keeps a run that ended so, and before which so many events were, which aren't kept. What can't be kept is told."""
+        """Keeps a run that ended so, and before which so many events were, which aren't kept. What can't be kept is reported."""
         refusals = [problem for problem in said.problems if problem not in said.too_large]
         if refusals or said.script is None:
             self._refuse(refusals)

@@ -2,8 +2,8 @@
 
 After so many events another recorder takes over, and the one before is kept until that happens again. So the memory
 that is needed doesn't grow. What stood when a recorder took over is the beginning of its script:
-a Deferred from before is told as it stood, where it is met first. Until then nothing was done with it, so it stood so at the
-beginning. Everything else from before, as a loop or a delayed call, is told as the Python that it is made of. So are all locks and
+a Deferred from before is recorded as it stood, where it is met first. Until then nothing was done with it, so it stood so at the
+beginning. Everything else from before, as a loop or a delayed call, is recorded as the Python that it is made of. So are all locks and
 queues from then on, since one from before can't be told from another.
 """
 
@@ -23,7 +23,7 @@ from .places import place
 from .recorder import Recorder
 from .saying import Said
 
-#: how many Deferreds that stood and were never met are told at most
+#: how many Deferreds that stood and were never met are recorded at most
 _MOST_MET = 1_000
 
 #: what a recorder that has taken over doesn't tell as such
@@ -57,7 +57,7 @@ class LastRecorder(Recorder):
         took_over: Callable[["LastRecorder"], None],
         before: Optional["LastRecorder"] = None,
     ) -> None:
-        """`count`: after how many events another takes over, which `took_over` is told of. `before`: the one that this takes over from."""
+        """`count`: after how many events another takes over, with which `took_over` is called. `before`: the one that this takes over from."""
         super().__init__(kinds, redact)
         self.before = before
         self._redact = redact
@@ -89,7 +89,7 @@ class LastRecorder(Recorder):
             self._end_recording(outer)
 
     def begin_plain(self, action: Action, inside: int) -> Any:
-        """The program performs an action in which none of its code is called, while it performs no other. Gives what ends it."""
+        """The program runs an action in which none of its code is called, while it runs no other. Gives what ends it."""
         outer, self._records = self._records, True
         return outer, super().begin_plain(action, inside + 1)
 
@@ -132,7 +132,7 @@ class LastRecorder(Recorder):
     # Deferreds
 
     def make(self, deferred: Any) -> None:
-        """The program has made a Deferred that has no canceller, while it performs no action."""
+        """The program has made a Deferred that has no canceller, while it runs no action."""
         Observer.make(self, deferred)
 
     def made(self, deferred: Deferred[Any], record: Record, kind: str = "", by_twisted: bool = False) -> None:
@@ -155,7 +155,7 @@ class LastRecorder(Recorder):
         parts[at] = _NameOf(record)
 
     def adopt(self, deferred: Deferred[Any]) -> Record:
-        """A Deferred that this recorder doesn't know. One that another has known is told at the beginning, as it stood."""
+        """A Deferred that this recorder doesn't know. One that another has known is recorded at the beginning, as it stood."""
         stood: Any = getattr(deferred, "_dv_record")
         if stood is None or self.earlier == 0:
             return super().adopt(deferred)

@@ -22,15 +22,15 @@ CANNOT = "can't be said"
 
 
 class Measured(NamedTuple):
-    """What a test came to."""
+    """The result of a test."""
 
     test: str
     state: str
     #: the entry, the reasons, or the first line that differs
     why: str
-    #: whether all objects were told as such
+    #: whether all objects were recorded as such
     natively: bool
-    #: whether times of the real reactor are told
+    #: whether times of the real reactor are recorded
     with_times: bool
     passed: bool
 
@@ -124,5 +124,5 @@ def bare_failures(module: str) -> List[str]:
 
 
 def counted(measured: List[Measured]) -> Counter[str]:
-    """How many tests came to what."""
+    """How many tests had which result."""
     return collections.Counter(one.state for one in measured)

@@ -96,7 +96,7 @@ _getframe = sys._getframe
 
 
 class Spots:
-    """Where in the program's own files actions are performed and Deferreds made: in no file of Twisted or of Python's library.
+    """Where in the program's own files actions run and Deferreds are made: in no file of Twisted or of Python's library.
 
     Little is done while the program runs: each call, and each frame that is looked at, counts.
     """
@@ -118,7 +118,7 @@ class Spots:
         return names.thing(kind, made_at)
 
     def note(self, action: object, first: int) -> None:
-        """An action is performed, which isn't one that makes a Deferred: that is located.
+        """An action runs, which isn't one that makes a Deferred: that is located.
 
         `first` is the number of the first frame that may be the program's, where this call's is 0.
         """
@@ -135,7 +135,7 @@ class Spots:
             self._look_round(action, frame)
 
     def of_last(self, action: object, maker: Optional[str]) -> Optional[Spot]:
-        """Where Twisted makes a Deferred while this action is performed; None, where `locate` has to find that."""
+        """Where Twisted makes a Deferred while this action runs; None, where `locate` has to find that."""
         noted = self._noted
         if action is None or self._last is not action or noted[-3] is not action:
             return None

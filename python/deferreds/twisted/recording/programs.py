@@ -19,7 +19,7 @@ from .hiding import SECRETS
 from .reactor import VirtualReactor, in_place_of_the_real
 from .recorder import Recorder
 
-#: the kinds that are told as such, tried one after the other until a run can be said
+#: the kinds that are recorded as such, tried one after the other until a run can be expressed
 LADDER: Tuple[frozenset[str], ...] = tuple(
     KINDS - frozenset(without)
     for without in (

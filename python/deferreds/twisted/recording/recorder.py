@@ -63,7 +63,7 @@ _DEFERREDS = frozenset(
 
 
 class Aside(Observer):
-    """Watches where the recorder asks for the text of an object, which the program wouldn't do: nothing of that is told."""
+    """Watches where the recorder asks for the text of an object, which the program wouldn't do: nothing of that is recorded."""
 
     def __init__(self, recorder: Recorder) -> None:
         super().__init__()
@@ -87,7 +87,7 @@ class Aside(Observer):
         return True
 
     def forget(self) -> None:
-        """Forgets what was told."""
+        """Forgets what was recorded."""
         self.parts.clear()
         self.records.clear()
         self.quirks.clear()
@@ -116,16 +116,16 @@ class Recorder(Observer):
         super().__init__(kinds if "clock" in kinds else kinds - {"timer", "loop", "thread"}, classes, values, Run("event"))
         # what is asked for often is found sooner on the object than on its class
         self.top.expected, self.top.anonymous = (), False
-        #: the actions of the program itself, and how many parts of lines were told before each
+        #: the actions of the program itself, and how many parts of lines were logged before each
         self.events: List[Action] = []
         self.begins: List[int] = []
         #: the actions of bodies that have failed
         self.failed: List[Action] = []
         self.problems: List[Problem] = []
-        #: the action that Twisted performs, and what the program has done inside it, though that calls for nothing
+        #: the action that Twisted runs, and what the program has done inside it, though that calls for nothing
         self._performed: Optional[Action] = None
         self._inside: Optional[Inside] = None
-        #: where actions were performed and Deferreds made
+        #: where actions ran and Deferreds were made
         self.spots = Spots()
         #: how many events have ended
         self.ended = 0
@@ -139,7 +139,7 @@ class Recorder(Observer):
         return place()
 
     def ask(self, call: Callable[[], Any]) -> Any:
-        """What the program's code says of an object of its own. What it does beside that is told nowhere."""
+        """What the program's code says of an object of its own. What it does beside that is recorded nowhere."""
         if watched.observer is not self:
             return call()
         aside = self._aside
@@ -235,7 +235,7 @@ class Recorder(Observer):
                 self.ended = len(self.events)
 
     def begin_plain(self, action: Action, inside: int) -> Any:
-        """The program performs an action in which none of its code is called, while it performs no other. Gives what ends it.
+        """The program runs an action in which none of its code is called, while it runs no other. Gives what ends it.
 
         So many frames, from the caller's on, are known not to be the program's.
         """
@@ -271,7 +271,7 @@ class Recorder(Observer):
 
     @switching
     def make(self, deferred: Any) -> None:
-        """The program has made a Deferred that has no canceller, while it performs no action."""
+        """The program has made a Deferred that has no canceller, while it runs no action."""
         run = self.frame
         record = Record(run)
         deferred._dv_record = (self, record)
@@ -311,7 +311,7 @@ class Recorder(Observer):
 
     @switching
     def own(self, call: Callable[..., Any], *args: Any) -> Any:
-        """Has Twisted's own code run, as a part of an action that is performed or of a body that runs."""
+        """Has Twisted's own code run, as a part of an action or of a body that runs."""
         inside, self._inside = self._inside, None
         try:
             return super().own(call, *args)
@@ -328,7 +328,7 @@ class Recorder(Observer):
         return self.acting and not is_entered(2)
 
     def _act_inside(self, action: Action, call: Callable[..., Any], *args: Any) -> Any:
-        """Performs an action of the program's which Twisted's own code, that performs another one, doesn't call for.
+        """Runs an action of the program's which Twisted's own code, that runs another one, doesn't call for.
 
         It is noted after that one, and is refused unless that one tells nothing more.
         """
@@ -367,11 +367,11 @@ class Recorder(Observer):
             self.problems.append(Problem(FINALIZED, inside.place, None))
 
     def _kind_performed(self) -> Optional[str]:
-        """The kind of objects to which what Twisted performs belongs."""
+        """The kind of objects to which what Twisted runs belongs."""
         return None if self._performed is None else KIND_OF_ACTION.get(self._performed[0])
 
     def _note(self, action: Action, before: int) -> None:
-        """Notes an action of the program, or of the body that runs, which was told after so many parts of lines."""
+        """Notes an action of the program, or of the body that runs, which was logged after so many parts of lines."""
         if self.frame is self.top:
             self.events.append(action)
             self.begins.append(before)

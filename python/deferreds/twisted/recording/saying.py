@@ -93,7 +93,7 @@ class Said:
 
     @property
     def with_times(self) -> bool:
-        """Whether times of a real reactor are told."""
+        """Whether times of a real reactor are recorded."""
         return any(isinstance(action, Advance) for action in self.actions)
 
     @property
@@ -116,7 +116,7 @@ class Said:
 
     @property
     def places(self) -> Optional[str]:
-        """Where in the program's own files Deferreds were made and actions performed, as JSON; None where that isn't known."""
+        """Where in the program's own files Deferreds were made and actions ran, as JSON; None where that isn't known."""
         return whereabouts_of(self._recorder, self.records, self.script, self.acted)
 
     def _problem(self, reason: str, kind: Optional[str] = None, place: str = "") -> None:
@@ -127,14 +127,14 @@ class Said:
     def _settle(self) -> int:
         """Has the times of a real reactor be set, leaves out the advances that aren't told, and gives how many events have ended.
 
-        What an advance that isn't told runs is run by the one that is told before it, which ends with it.
+        What an advance that isn't recorded runs is run by the one that is recorded before it, which ends with it.
         """
         recorder = self._recorder
         conflict = None if recorder.pace is None else recorder.pace.settle()
         if conflict is not None:
             self._problem(conflict.reason, conflict.kind, conflict.place)
         told = [not isinstance(action, Advance) or action.is_told for action in recorder.events]
-        #: the events of the whole run that are told
+        #: the events of the whole run that are recorded
         self.actions = list(compress(recorder.events, told))
         self._begins = list(compress(recorder.begins, told))
         while self._ended < len(told) and not told[self._ended]:

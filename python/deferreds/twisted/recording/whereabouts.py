@@ -1,4 +1,4 @@
-"""Where in the program's own files each Deferred of a recorded run was made, and each action of its script performed."""
+"""Where in the program's own files each Deferred of a recorded run was made, and each action of its script ran."""
 
 from __future__ import annotations
 
