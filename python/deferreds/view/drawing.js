@@ -4456,6 +4456,7 @@ return { MOST, _MOST_MARKS, _BARS, Axis, _round };
 var $m_page = (function () {
 var Axis = $m_axis.Axis;
 var Events = $m_events.Events;
+var WORDS = $m_lines.WORDS;
 var isolated = $m_markup.isolated;
 var placed = $m_markup.placed;
 var OfDeferred = $m_phrases.OfDeferred;
@@ -4512,6 +4513,12 @@ this._shown = new Window(run, this._events, this.window, this.there);
 this._shown_outcomes();
 this._axis = new Axis(run, this._markup);
 this._later = true;
+}
+get kinds() {
+let rows, words;
+rows = this._run.fold.rows;
+words = $set((() => { const $r = []; for (const place of this.there) { $r.push($at(rows, place).entry.word); } return $r; })());
+return $sorted_of($set((() => { const $r = []; for (const word of words) { $r.push(($in(word, WORDS) ? word : "")); } return $r; })()));
 }
 get windows() {
 if (($len(this.there) === $len(this.window))) {
