@@ -117,7 +117,7 @@ class Drawn(InBrowser):
 
     def test_its_pieces_are_those_of_python(self) -> None:
         """Of many more runs, without showing each."""
-        modules = (drawing.FOLDER / "python.js").read_text(encoding="utf-8") + drawing.FILE.read_text(encoding="utf-8")
+        modules = (drawing.FOLDER / "python.js").read_text(encoding="utf-8") + drawing.script()
         self.browser.open(Path(os.devnull))
         self.asked(f"(() => {{ {modules}\n window.pieces = {_PIECES}; return 0; }})()")
         for one in [*texts(), *rows()]:
@@ -158,13 +158,13 @@ class Words(InBrowser):
 
 
 class Script(unittest.TestCase):
-    """`drawing.js` is what it is made from."""
+    """`drawing.html` is what it is made from."""
 
     def test_it_is_of_these_modules(self) -> None:
         self.assertEqual(drawing.main(["--check"]), 0, "python/make_drawing writes it anew")
 
     def test_it_can_stand_in_a_page(self) -> None:
-        text = drawing.FILE.read_text(encoding="utf-8") + (drawing.FOLDER / "python.js").read_text(encoding="utf-8")
+        text = drawing.script() + (drawing.FOLDER / "python.js").read_text(encoding="utf-8")
         for sign in ("</script", "<!--"):
             self.assertNotIn(sign, text)
 

@@ -1,4 +1,4 @@
-// What Python means: the functions that `drawing.js` stands on. A tuple and a list are both an array.
+// What Python means: the functions that the view's modules stand on once they are JavaScript. A tuple and a list are both an array.
 var $NUMBER = /[\ud800-\udfff]/;
 function $true(x) {
   if (typeof x !== "object" || x === null) return Boolean(x);
