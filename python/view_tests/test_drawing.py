@@ -13,7 +13,7 @@ from unittest import mock
 
 from deferreds.checkout import TOP
 from deferreds.twisted.rows import ANY_LINES, read_rows, row_files
-from deferreds.view.long_pages import MARK, SHELL, Packed, page_that_draws
+from deferreds.view.long_pages import MARK, SHELL, Packed, known_of_title, page_that_draws
 from deferreds.view.page import Page
 from deferreds.view.run import run_of
 from deferreds.view.sizes import AT_A_TIME, MOST_WRITTEN
@@ -139,7 +139,7 @@ class Drawn(InBrowser):
 
     def _replace(self, text: str) -> None:
         """Opens the page with these lines in the place of its own."""
-        packed = Packed(Source("t", False))
+        packed = Packed(known_of_title("t"))
         packed.take(text.encode("utf-8"))
         self.path.write_bytes(page_that_draws("t", packed, 2, []))
         self.browser.open(self.path)

@@ -31,8 +31,9 @@ from ..ending import say, writing
 from ..sampling import MOST_SEED
 from ..survey import MOST_ORDERS, ORDERS
 from .batches import NotBatches, parse_batches
-from .inputs import NO_INPUT, NO_OUTPUT, STANDARD, USAGE, Failed, InOrders, Inputs, read_any
-from .long_pages import long_page, page_name
+from .inputs import NO_INPUT, NO_OUTPUT, USAGE, Failed, InOrders, Inputs, read_any
+from .long_pages import known_of, long_page
+from .names import STANDARD, page_name
 from .sizes import said_of_parts
 from .texts import clipped, visible
 
@@ -296,7 +297,7 @@ def _print_text(run: Run, asked: Optional[str]) -> None:
 
 def _show_page(one: Inputs, arguments: argparse.Namespace, target: str) -> None:
     told, asked = one.told(), (arguments.first, arguments.last)
-    drawn = long_page(told.source, io.BytesIO(told.data), *asked) if not told.source.is_journal else None
+    drawn = long_page(told.source.title, known_of(told.source, *asked), io.BytesIO(told.data)) if not told.source.is_journal else None
     if drawn is not None:
         _write_bytes(drawn.page, target)
         lines, counts = drawn.size.lines, drawn.size.counts(told.source.events, told.source.tick)

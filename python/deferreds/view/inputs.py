@@ -14,18 +14,16 @@ from ..ending import say
 from ..program import NOT_RUN, NotRun, found
 from ..survey import ONE_OUTCOME, SEVERAL_OUTCOMES, TOO_MANY
 from .batches import Batches, text_of
+from .names import PLACES, STANDARD
 from .places import NotPlaces, read_places
 from .recordings import tick_beside
 from .refusals import read_refusal
-from .sources import PLACES, Source
+from .sources import Source
 
 # (what reads a run is imported where it is used: most of the time of a page that draws itself would go to that)
 if TYPE_CHECKING:
     from .orders import Orders
     from .run import Run
-
-#: the name of standard input, and of standard output
-STANDARD = "-"
 
 USAGE, NO_INPUT, NO_OUTPUT = 64, 66, 73
 _STOPPED, _REFUSED, _BATCHES_REFUSED = 1, 2, 5

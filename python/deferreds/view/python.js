@@ -344,7 +344,13 @@ function $isinstance(x, kind) {
 // modules
 var $m_re = {
   DOTALL: "s",
-  compile: function (pattern, flags) { return new $Pattern(pattern.replace(/\(\?P</g, "(?<"), (flags || "") + "u"); }
+  known: new Map(),
+  // (each is made once, as Python keeps them)
+  compile: function (pattern, flags) {
+    var key = (flags || "") + "u/" + pattern;
+    if (!$m_re.known.has(key)) $m_re.known.set(key, new $Pattern(pattern.replace(/\(\?P</g, "(?<"), (flags || "") + "u"));
+    return $m_re.known.get(key);
+  }
 };
 class $Pattern {
   constructor(text, flags) {
@@ -356,7 +362,6 @@ class $Pattern {
 }
 function $groups(found) { return found.slice(1); }
 function $groupdict(found) { return found.groups || {}; }
-var $m_html = { escape: function (text) { return !/[&<>"']/.test(text) ? text : text.replace(/[&<>"']/g, function (sign) { return { "&": "&amp;", "<": "&lt;", ">": "&gt;", '"': "&quot;", "'": "&#x27;" }[sign]; }); } };
 var $m_heapq = {
   heappush: function (heap, one) {
     var at = heap.length;
