@@ -63,16 +63,16 @@ class Glance:
         missing = self._most + 1 - len(self._first)
         if missing > 0:
             self._first += filter(None, block.split(b"\n", missing)[:missing])
-        place = block.rfind(_ENTRY)
+        lines, place = block.count(b"\n"), block.rfind(_ENTRY)
         if place >= 0:
             begins = block.rfind(b"\n", 0, place) + 1
             self._last = block[begins : block.index(b"\n", place)].partition(b'"line":"')[2]
-            self._before = self._lines + block.count(b"\n", 0, begins)
+            self._before = self._lines + lines - block.count(b"\n", begins)
             self._deferreds = self._left = 0
         after = max(0, place)
         self._deferreds += block.count(_DEFERRED, after)
         self._left += block.count(_LEFT, after)
-        self._lines += block.count(b"\n")
+        self._lines += lines
         self._end = block
 
     def size(self) -> Size | None:

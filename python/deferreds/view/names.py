@@ -7,6 +7,9 @@ import os
 #: the name of standard input, and of standard output
 STANDARD = "-"
 
+#: what the names of traces end with, and those of pages of every order or of a sample of them
+TRACE, ORDERS_PAGE, SAMPLE_PAGE = ".trace.json", ".orders.html", ".sample.html"
+
 #: what the names of files end with that stand beside a script or a journal: its places, and the list of its recording
 PLACES, RECORDING = ".places.json", ".recording"
 
