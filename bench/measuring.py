@@ -134,9 +134,16 @@ class PeakMemory:
     def of(self, program: Path, source: bytes) -> tuple[End, float]:
         return sorted((self._once(program, source) for _ in range(self.runs)), key=_value)[self.runs // 2]
 
+    def peak(self, words: Sequence[str]) -> float:
+        """Runs a command that reads nothing: the most bytes that any process of it had resident, in the middle of some runs."""
+        return sorted(self._of_words(words, b"")[1] for _ in range(self.runs))[self.runs // 2]
+
     def _once(self, program: Path, source: bytes) -> tuple[End, float]:
+        return self._of_words([str(program), WORKERS], source)
+
+    def _of_words(self, words: Sequence[str], source: bytes) -> tuple[End, float]:
         with tempfile.NamedTemporaryFile() as told:
-            end = run([*self.words, told.name, str(program), WORKERS], source)
+            end = run([*self.words, told.name, *words], source)
             kibibytes = told.read().split()
         if not kibibytes:
             raise NotMeasured(f"{self.words[0]} has told nothing: " + end.errors.decode(errors="replace"))

@@ -17,12 +17,12 @@ from itertools import count, islice
 from pathlib import Path
 from typing import Callable, Dict, Iterable, Iterator, List, NamedTuple, Optional
 
+from deferreds.bounds import ORDERS
 from deferreds.orders import Order, number_of_orders, orders, posting_of
 from deferreds.sampling import MOST_DRAWN_FROM, sampled
 from deferreds.survey import (
     NO_SAMPLE,
     ONE_OUTCOME,
-    ORDERS,
     SEVERAL_OUTCOMES,
     TOO_MANY,
     Run,

@@ -2,11 +2,14 @@
 
 from __future__ import annotations
 
-import contextlib
 import os
-import signal
 import sys
-from typing import IO, Callable, Iterator
+
+#: typing takes longer to import than most commands to start, and types aren't looked at then
+TYPE_CHECKING = False
+if TYPE_CHECKING:
+    from types import TracebackType
+    from typing import IO, Callable, Optional, Type
 
 #: the status of a command whose output couldn't be written, which is that of `deferreds`
 WRITE_FAILED = 4
@@ -16,15 +19,15 @@ class OutputFailed(Exception):
     """Standard output can't be written: why."""
 
 
-@contextlib.contextmanager
-def writing() -> Iterator[None]:
-    """Raises OutputFailed where what is done can't be written to standard output; a pipe that is closed stays BrokenPipeError."""
-    try:
-        yield
-    except BrokenPipeError:
-        raise
-    except OSError as error:
-        raise OutputFailed(error.strerror) from None
+class writing:
+    """Raises OutputFailed if what is done within it can't be written to standard output; a pipe that is closed stays BrokenPipeError."""
+
+    def __enter__(self) -> None:
+        pass
+
+    def __exit__(self, _: Optional[Type[BaseException]], error: Optional[BaseException], __: Optional[TracebackType]) -> None:
+        if isinstance(error, OSError) and not isinstance(error, BrokenPipeError):
+            raise OutputFailed(error.strerror) from None
 
 
 def say(text: str) -> None:
@@ -67,6 +70,8 @@ def ended(main: Callable[[], int], name: str) -> int:
         discard_output()
         return WRITE_FAILED
     except KeyboardInterrupt:
+        import signal
+
         # a shell sees by the signal that it was Ctrl-C; threads that still run aren't waited for
         signal.signal(signal.SIGINT, signal.SIG_DFL)
         os.kill(os.getpid(), signal.SIGINT)

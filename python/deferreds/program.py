@@ -6,8 +6,6 @@ An installed package holds the executable. In a checkout its launcher runs it. D
 from __future__ import annotations
 
 import os
-import platform
-import signal
 import sys
 from pathlib import Path
 from typing import NoReturn, Optional, Sequence, Tuple
@@ -66,6 +64,8 @@ def built() -> Path:
 
 def run_in_place(words: Sequence[str]) -> NoReturn:
     """Has the program take the place of this process, with these words."""
+    import signal
+
     program = os.fspath(found())
     # Python ignores these two signals, and what it ignores the program would ignore, too
     signal.signal(signal.SIGPIPE, signal.SIG_DFL)
@@ -101,6 +101,8 @@ def _begins_as_program(path: Path) -> bool:
 
 def _check_machine() -> None:
     """Raises NotRun where this machine can't run the executable."""
+    import platform
+
     if not sys.platform.startswith("linux"):
         raise NotRun(f"the program is for Linux, and this is {sys.platform}")
     if platform.machine() != _PROCESSOR:

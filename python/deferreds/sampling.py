@@ -10,8 +10,8 @@ from typing import Iterator
 
 from .orders import Order, Posting, number_of_orders, order_at
 
-#: the greatest seed of a sample, and the most orders among which one is drawn
-MOST_SEED, MOST_DRAWN_FROM = 2**32 - 1, 2**64 - 2
+#: the most orders among which one is drawn
+MOST_DRAWN_FROM = 2**64 - 2
 
 _NUMBERS = 2**64
 #: how many numbers are drawn at most for one place

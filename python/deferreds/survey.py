@@ -11,11 +11,10 @@ import json
 import re
 from typing import Dict, FrozenSet, Iterable, List, NamedTuple, Optional, Sequence
 
+from .bounds import MOST_ORDERS
 from .orders import Order
 from .sampling import MOST_DRAWN_FROM
 
-#: how many orders run at most where no number is given, and the most that may be asked for
-ORDERS, MOST_ORDERS = 20_000, 1_000_000
 #: the statuses: every order has the same outcome, there are several, there are more orders than may run
 ONE_OUTCOME, SEVERAL_OUTCOMES, TOO_MANY = 0, 6, 7
 #: what is said where a sample is asked for of more orders than are counted

@@ -1,7 +1,7 @@
-"""`make_drawing [--check]`: writes what a page draws itself by: `deferreds/view/drawing.js`, which is the view's modules as JavaScript,
-and `drawing.html`, the page of a long run without its run, which has that script.
+"""`make_drawing [--check]`: writes `deferreds/view/drawing.html`, the page of a long run without its run. Its script has the view's
+modules as JavaScript, by which the page draws itself.
 
-With --check nothing is written. Status 0: it is written, or is what it was made from; 1: with --check, it isn't; 64: the arguments are wrong.
+With --check nothing is written. Status 0: it is written, or is what it was made from; 1: with --check, it isn't; 64: the words are wrong.
 """
 
 from __future__ import annotations
@@ -20,7 +20,7 @@ from deferreds.view.long_pages import MARK, SHELL
 from .javascript import Unknown, written
 
 FOLDER = Path(deferreds.view.__file__).parent
-FILE = FOLDER / "drawing.js"
+FILE = Path(SHELL)
 
 #: the modules, each after those that it uses
 MODULES = (
@@ -33,12 +33,11 @@ LEFT_OUT: Dict[str, Sequence[str]] = {"language": ("read", "FILE", "LANGUAGE")}
 
 
 def script() -> str:
-    """What `drawing.js` has."""
+    """The modules, as JavaScript."""
     sources = [("language", FOLDER.parent / "language.py"), *((name, FOLDER / f"{name}.py") for name in MODULES)]
     read = [(name, path.read_text(encoding="utf-8"), LEFT_OUT.get(name, ())) for name, path in sources]
     language, *others = written(read)
-    head = "// The view's modules, written as JavaScript by python/make_drawing: change these, and run it again."
-    return "\n".join([head, language, _language(), *others, ""])
+    return "\n".join([language, _language(), *others, ""])
 
 
 def _language() -> str:
@@ -57,18 +56,16 @@ def main(words: List[str]) -> int:
         say("usage: make_drawing [--check]")
         return 64
     try:
-        made = script()
+        made = shell(script(), MARK.decode("ascii"))
     except Unknown as unknown:
         say(f"make_drawing: {FOLDER}/{unknown}")
         return 1
-    texts = {FILE: made, Path(SHELL): shell(made, MARK.decode("ascii"))}
     if not words:
-        for path, text in texts.items():
-            path.write_text(text, encoding="utf-8")
-    stale = [path for path, text in texts.items() if path.read_text(encoding="utf-8") != text]
-    for path in stale:
-        say(f"make_drawing: {path} isn't what it is made from; make_drawing writes it again")
-    return 1 if stale else 0
+        FILE.write_text(made, encoding="utf-8")
+    elif FILE.read_text(encoding="utf-8") != made:
+        say(f"make_drawing: {FILE} isn't what it is made from; make_drawing writes it again")
+        return 1
+    return 0
 
 
 if __name__ == "__main__":

@@ -41,7 +41,6 @@ _MODULES: Dict[str, Set[str]] = {
     "bisect": {"bisect_right"},
     "checkout": {"as_called"},
     "heapq": {"heappop", "heappush"},
-    "html": {"escape"},
     "json": {"JSONDecoder", "JSONEncoder", "dumps", "loads"},
     "os": {"path"},
     "os.path": {"basename"},
@@ -55,7 +54,6 @@ _PLAIN = {"cast", "Html"}
 _NAMED: Dict[str, Set[str]] = {
     "dumps": {"separators", "ensure_ascii"},
     "encode": {"errors"},
-    "escape": {"quote"},
     "JSONDecoder": {"parse_int", "parse_float", "parse_constant"},
     "JSONEncoder": {"separators", "ensure_ascii"},
     "max": {"key", "default"},
@@ -181,6 +179,13 @@ def _is_typing(value: Optional[ast.expr]) -> bool:
     return isinstance(base, ast.Name) and base.id in _TYPES | {"OrderedDict"}
 
 
+def _is_of_types(node: ast.stmt) -> bool:
+    """Whether a statement of a module is for those alone who check types: what TYPE_CHECKING is, and what depends on it."""
+    if isinstance(node, ast.If):
+        return ast.unparse(node.test) == "TYPE_CHECKING"
+    return isinstance(node, ast.Assign) and ast.unparse(node) == "TYPE_CHECKING = False"
+
+
 def _own(node: ast.AST) -> Iterator[ast.AST]:
     """All nodes of a function, except those of functions within it."""
     for child in ast.iter_child_nodes(node):
@@ -245,7 +250,7 @@ class Module:
                     raise Unknown(node, f"{one.name} of {module}")
                 if one.name not in _TYPES:
                     yield f"var {_safe(one.asname or one.name)} = $m_{module}.{one.name};"
-        elif isinstance(node, ast.Import):
+        elif isinstance(node, ast.Import) or _is_of_types(node):
             return
         elif isinstance(node, ast.ClassDef):
             self._exported.append(node.name)
@@ -363,6 +368,8 @@ class Module:
                 yield "} else {"
                 yield from self._block(node.orelse)
             yield "}"
+        elif isinstance(node, ast.Import):
+            return
         elif isinstance(node, ast.While):
             if node.orelse:
                 raise Unknown(node, "while with else")

@@ -6,10 +6,9 @@ import json
 import unittest
 from typing import Dict
 
+from deferreds.bounds import MOST_ORDERS, ORDERS
 from deferreds.survey import (
-    MOST_ORDERS,
     ONE_OUTCOME,
-    ORDERS,
     SEVERAL_OUTCOMES,
     Line,
     Run,

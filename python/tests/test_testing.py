@@ -18,7 +18,7 @@ from deferreds.testing import recorded
 from deferreds.testing.folder import HEADER, LIST, Folder, NotUsable, name_of
 from deferreds.testing.recorded import RecordedTests, running
 from deferreds.twisted.running import be_quiet, run
-from deferreds.view.sources import PLACES
+from deferreds.view.names import PLACES
 from deferreds.view.places import read_places
 from twisted.internet.defer import Deferred
 

@@ -13,7 +13,7 @@ from unittest import mock
 
 from deferreds.view import texts
 from deferreds.view.layout import SLOT
-from deferreds.view.long_pages import MOST_PLAIN, Packed, page_that_draws
+from deferreds.view.long_pages import MOST_PLAIN, Packed, known_of, page_that_draws
 from deferreds.view.page import NARROW
 from deferreds.view.pages import written_page
 from deferreds.view.run import Run
@@ -113,7 +113,7 @@ class InBrowser(unittest.TestCase):
         """Opens the page of a run that draws itself, in windows of so many lines."""
         rows = told.run().fold.rows
         with mock.patch("deferreds.view.long_pages.AT_A_TIME", most):
-            packed = Packed(told.source, first, last)
+            packed = Packed(known_of(told.source, first, last))
         packed.take(told.text.encode("utf-8"))
         self.path.write_bytes(page_that_draws(told.source.title, packed, len(rows), [row.entry.line for row in rows[:MOST_PLAIN]]))
         return self.browser.open(self.path, fragment)

@@ -10,6 +10,7 @@ from typing import List
 
 from deferreds.view.axis import MOST
 from deferreds.view.long_pages import MOST_PLAIN
+from deferreds.view.records import ended
 from deferreds.view.sizes import AT_A_TIME
 from deferreds.view.sources import Source
 from deferreds.view.texts import shortened, visible
@@ -35,6 +36,23 @@ class Windows(InBrowser):
     def open(self, text: str) -> None:
         """Chooses a window, or the one after."""
         self.asked(f"[...document.querySelectorAll('#windows button, #next button')].find(button => button.textContent === {json.dumps(text)}).click()")
+
+    def shown_from(self) -> int:
+        """The place of the first line of the window that is open."""
+        return int(self.asked("document.querySelector('.row[id]').id.slice(1)")) - 1
+
+    def leave(self, group: str, value: str) -> None:
+        """Opens the filter, and leaves one box of a group."""
+        self.browser.click("#sieve summary")
+        self.browser.settle()
+        self.asked(
+            f"document.querySelectorAll('#sieve input').forEach(box => {{ if (box.name === '{group}' && box.checked !== (box.value === '{value}')) box.click(); }})"
+        )
+
+    def summary(self) -> str:
+        """What is said of the filter."""
+        said: str = self.asked("document.querySelector('#sieve summary').textContent")
+        return said
 
     def test_each_window_is_the_chart_of_its_lines(self) -> None:
         told = samples.long_text(500)
@@ -103,16 +121,54 @@ class Windows(InBrowser):
         told = samples.long_text(500)
         run = told.run()
         self.show_drawn(told, most=200)
-        notes = [row.place for row in run.fold.rows[:200] if row.entry.word == "note"]
-        self.browser.click("#sieve summary")
-        self.browser.settle()
-        self.asked("document.querySelectorAll('#sieve input').forEach(box => { if (box.name === 'kind' && box.checked !== (box.value === 'note')) box.click(); })")
-        self.assertEqual(self.asked(LINES), notes)
-        self.assertIn(f"it hides {200 - len(notes)} of 200 lines", self.asked("document.querySelector('#sieve summary').textContent"))
-        self.open("201 to 400")
+        self.leave("kind", "note")
+        for start in (0, 200, 400, 0):
+            rows = run.fold.rows[start : start + 200]
+            if start != self.shown_from():
+                self.open(f"{start + 1} to {start + len(rows)}")
+                self.first(start + 1)
+            notes = [row.place for row in rows if row.entry.word == "note"]
+            self.assertEqual(self.asked(LINES), notes)
+            self.assertIn(f"it hides {len(rows) - len(notes)} of {len(rows)} lines", self.summary())
+        self.assertEqual(self.trouble(), [])
+
+    def test_a_filter_stays_for_kinds_that_one_window_lacks(self) -> None:
+        lines = ["new #0 d", *(f"note {n}" for n in range(9)), *["add #0"] * 10, *["note 1", "fire #0 ok 1"] * 5]
+        self.show_drawn(samples.Text(Source("t", True), "".join(f"{line}\n" for line in [*lines, "what is this"])), most=10)
+        self.leave("kind", "note")
+        for start, shown in ((11, []), (21, [20, 22, 24, 26, 28]), (1, list(range(1, 10)))):
+            self.open(f"{start} to {start + 9}")
+            self.first(start)
+            self.assertEqual(self.asked(LINES), shown)
+        boxes = "[...document.querySelectorAll('#sieve input[name=kind]')].map(box => `${box.value} ${box.checked} ${box.parentElement.lastChild.textContent}`)"
+        self.assertEqual(self.asked(boxes), [" false 0", "add false 0", "fire false 0", "new false 1", "note true 9"])
+        self.asked("document.querySelector('#sieve .act').click()")
+        self.assertEqual(self.asked(LINES), list(range(10)))
+        self.assertNotIn("hides", self.summary())
+        self.assertEqual(self.trouble(), [])
+
+    def test_a_filter_by_outcome_stays_for_other_windows(self) -> None:
+        told = samples.long_text(500)
+        run = told.run()
+        self.show_drawn(told, most=200)
+        self.leave("outcome", "unfired")
+        of = {one.number for one in run.fold.records.values() if ended(one.end).value == "unfired"}
+        self.assertTrue(of)
+        for start in (200, 0):
+            self.open(f"{start + 1} to {start + 200}")
+            self.first(start + 1)
+            self.assertEqual(self.asked(LINES), [row.place for row in run.fold.rows[start : start + 200] if of & set(row.names)])
+
+    def test_a_link_to_a_row_of_other_lines_that_is_hidden_ends_the_filter(self) -> None:
+        told = samples.long_text(500)
+        self.show_drawn(told, most=200)
+        self.leave("kind", "note")
+        line = next(row.place for row in told.run().fold.rows[250:] if row.entry.word == "fire") + 1
+        self.asked(f"location.hash = 'r{line}'")
         self.first(201)
         self.assertEqual(self.asked(LINES), list(range(200, 400)))
-        self.assertEqual(self.trouble(), [])
+        self.assertTrue(0 < self.asked(f"document.getElementById('r{line}').getBoundingClientRect().top") < 1000)
+        self.assertNotIn("hides", self.summary())
 
     def test_outcomes_and_the_time_axis_are_of_all_lines(self) -> None:
         told = samples.long_text(500)

@@ -13,7 +13,7 @@ from unittest import mock
 
 from deferreds.checkout import TOP
 from deferreds.twisted.rows import ANY_LINES, read_rows, row_files
-from deferreds.view.long_pages import MARK, SHELL, Packed, page_that_draws
+from deferreds.view.long_pages import MARK, SHELL, Packed, known_of_title, page_that_draws
 from deferreds.view.page import Page
 from deferreds.view.run import run_of
 from deferreds.view.sizes import AT_A_TIME, MOST_WRITTEN
@@ -117,7 +117,7 @@ class Drawn(InBrowser):
 
     def test_its_pieces_are_those_of_python(self) -> None:
         """Of many more runs, without showing each."""
-        modules = (drawing.FOLDER / "python.js").read_text(encoding="utf-8") + drawing.FILE.read_text(encoding="utf-8")
+        modules = (drawing.FOLDER / "python.js").read_text(encoding="utf-8") + drawing.script()
         self.browser.open(Path(os.devnull))
         self.asked(f"(() => {{ {modules}\n window.pieces = {_PIECES}; return 0; }})()")
         for one in [*texts(), *rows()]:
@@ -139,7 +139,7 @@ class Drawn(InBrowser):
 
     def _replace(self, text: str) -> None:
         """Opens the page with these lines in the place of its own."""
-        packed = Packed(Source("t", False))
+        packed = Packed(known_of_title("t"))
         packed.take(text.encode("utf-8"))
         self.path.write_bytes(page_that_draws("t", packed, 2, []))
         self.browser.open(self.path)
@@ -158,13 +158,13 @@ class Words(InBrowser):
 
 
 class Script(unittest.TestCase):
-    """`drawing.js` is what it is made from."""
+    """`drawing.html` is what it is made from."""
 
     def test_it_is_of_these_modules(self) -> None:
         self.assertEqual(drawing.main(["--check"]), 0, "python/make_drawing writes it again")
 
     def test_it_can_stand_in_a_page(self) -> None:
-        text = drawing.FILE.read_text(encoding="utf-8") + (drawing.FOLDER / "python.js").read_text(encoding="utf-8")
+        text = drawing.script() + (drawing.FOLDER / "python.js").read_text(encoding="utf-8")
         for sign in ("</script", "<!--"):
             self.assertNotIn(sign, text)
 

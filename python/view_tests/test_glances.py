@@ -6,6 +6,8 @@ import contextlib
 import io
 import json
 import os
+import subprocess
+import sys
 import tempfile
 import threading
 import unittest
@@ -15,9 +17,10 @@ from pathlib import Path
 from typing import Any, List, Optional, Sequence, Tuple
 from unittest import mock
 
+from deferreds.checkout import TOP
 from deferreds.view import command, start
 from deferreds.view.glances import Glance, Size, blocks_of
-from deferreds.view.long_pages import MOST_PLAIN, long_page
+from deferreds.view.long_pages import MOST_PLAIN, known_of, known_of_title, long_page
 from deferreds.view.sources import Source
 
 from . import samples
@@ -99,7 +102,25 @@ class Glances(unittest.TestCase):
 
     def test_bytes_that_are_no_text_make_no_page(self) -> None:
         data = lines_of(1_100).replace(b"request_2", b"request_\xff", 1)
-        self.assertIsNone(long_page(Source("t", False), io.BytesIO(data)))
+        self.assertIsNone(long_page("t", known_of_title("t"), io.BytesIO(data)))
+
+    def test_the_first_lines_are_the_texts_of_their_json(self) -> None:
+        texts = ["plain", '"', "\\", '\\"', "\n\t\r\b\f", "\0\x1f", "é🙂", 'é\\"🙂\n', "\\u0041", "\\n", "/", "\\/", '","number":7,"', "\u2028\x7f"]
+        lines = [f"note {json.dumps(text, ensure_ascii=False)}" for text in texts]
+        size = seen(printed("".join(f"{line}\n" for line in lines)), most=100)
+        assert size is not None
+        self.assertEqual(size.first, lines)
+
+    def test_other_escapes_are_those_of_json_too(self) -> None:
+        data = printed("note 7\nnote 8\n")
+        for escaped in (r"\/", r"\u0041", r"\ud83d\ude42", r"\\\"\u000a"):
+            size = seen(data.replace(b"note 7", escaped.encode("ascii")))
+            assert size is not None
+            self.assertEqual(size.first, [json.loads(f'"{escaped}"'), "note 8"])
+
+    def test_what_is_known_beside_is_the_same_line_for_any_title(self) -> None:
+        for title in ("facts.jsonl", "", 'a"b', "a\\b", "é", "a\nb", "\udcff", "{x}", "%s"):
+            self.assertEqual(known_of_title(title), known_of(Source(title, False)))
 
     def test_a_text_that_two_blocks_would_share_is_whole(self) -> None:
         data = printed('note "é🙂"\nnote "שלום"\n')
@@ -133,6 +154,21 @@ class Started(unittest.TestCase):
         self.assertEqual(page.read_bytes(), other.read_bytes())
         self.assertEqual(errors.replace(str(page), str(other)), said.getvalue())
         self.assertEqual(self.ran("-o", page, "--json", self.facts), (status, errors, False))
+
+    def test_it_imports_little(self) -> None:
+        """What each of these takes to import is as much as a page of 5,000 lines."""
+        needless = ("argparse", "collections", "contextlib", "enum", "html", "json", "pathlib", "re", "subprocess", "typing", "deferreds.view.command")
+        page = self.folder / "page.html"
+        program = f"import sys; from deferreds.view.start import main; main(sys.argv[1:]); print([one for one in {needless!r} if one in sys.modules])"
+        ran = subprocess.run(
+            [sys.executable, "-S", "-c", program, "--json", str(self.facts), "-o", str(page)],
+            env={"PYTHONPATH": str(TOP / "python"), "PYTHONDONTWRITEBYTECODE": "1"},
+            capture_output=True,
+            text=True,
+            check=True,
+        )
+        self.assertEqual(ran.stdout, "[]\n")
+        self.assertTrue(page.is_file())
 
     def test_the_page_has_all_lines_and_what_is_known_beside(self) -> None:
         page = self.folder / "page.html"

@@ -14,8 +14,7 @@ from typing import Any, List, Optional, Tuple
 from unittest import mock
 
 from deferreds.checkout import TOP
-from deferreds.sampling import MOST_SEED
-from deferreds.survey import MOST_ORDERS
+from deferreds.bounds import MOST_ORDERS, MOST_SEED
 from deferreds.view import inputs, orders_page, texts
 from deferreds.view.batches import Batches, text_of
 from deferreds.view.orders import Came, NotOrders, Orders, read_orders

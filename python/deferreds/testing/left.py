@@ -11,7 +11,8 @@ from ..twisted.telling import Advance, Record, Thing
 from ..view.pages import page_of
 from ..view.report import Finding, Kind, Severity
 from ..view.run import Run, run_of
-from ..view.sources import PLACES, Source
+from ..view.names import PLACES
+from ..view.sources import Source
 from ..view.terminal import Terminal
 
 _MOST_SHOWN = 3

@@ -73,7 +73,7 @@ class Tree:
         return (*said.get(step.does, (own,)), "  (", OfLine(step.row), ")")
 
     def _other(self, step: Step, opens: bool) -> Phrase:
-        """Whom a step names; with its own time where it is told below."""
+        """Whom a step names; with its own time if its steps stand below."""
         record = self._run.fold.records.get(step.other) if step.other is not None else None
         if record is None:
             return ()

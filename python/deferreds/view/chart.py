@@ -115,7 +115,7 @@ class Chart:
         return title if self._head_titles <= _MOST_TITLES else Html("")
 
     def _why(self, row: Row) -> Html:
-        """Why it happened, unless the rows round it show that, and the event that is told by the row."""
+        """Why it happened, unless the rows round it show that, and the event that the row shows."""
         tail = self._events.tail(row)
         cause = self._markup.said(row.cause, 80) if row.cause and not _shows_cause(row) else Html("")
         arrow_ = Html(f"← {cause}") if cause else Html("")

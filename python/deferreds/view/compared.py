@@ -64,7 +64,7 @@ class Side:
         return entry.word, entry.what, entry.deferred, entry.other, self._name(entry.name), number, tail
 
     def _value(self, text: str) -> str:
-        """An outcome, which may be the name of a lock, as whoever gets a token of it has."""
+        """An outcome. It may be the name of a lock: a Deferred that gets a token has it as its value."""
         return f'{self._name(text[:-1])}"' if text in self._locks else text
 
     def lacks(self, row: Row) -> str:

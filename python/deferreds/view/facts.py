@@ -59,7 +59,7 @@ class Ending(NamedTuple):
 
 
 class Facts:
-    """A run as it is told."""
+    """A run as it is printed."""
 
     def __init__(self) -> None:
         self.entries: List[Entry] = []

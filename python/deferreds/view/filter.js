@@ -32,7 +32,7 @@ function group(name, title, counts, says) {
   Array.from(counts.keys()).sort().forEach(function (value) {
     var label = made("label"), box = made("input");
     box.type = "checkbox";
-    box.checked = true;
+    box.checked = !off[name].has(value);
     box.name = name;
     box.value = value;
     box.addEventListener("change", strain);
@@ -69,17 +69,18 @@ function unstrain() {
   boxes.forEach(function (box) { box.checked = true; });
   strain();
 }
-function counted(values) {
-  var counts = new Map();
+// how often each value comes; each of those that are known at least 0 times
+function counted(values, known) {
+  var counts = new Map(known.map(function (value) { return [value, 0]; }));
   values.forEach(function (value) { counts.set(value, (counts.get(value) || 0) + 1); });
   return counts;
 }
-// the boxes are made when the filter is opened first, and anew for other lines
+// the boxes are made when the filter is opened first, and anew for other lines, with what was chosen: a long run has those of all its lines
 function makeBoxes() {
   boxes = [];
   all(".group", sieve).forEach(function (part) { part.remove(); });
-  group("kind", "Kinds of lines", counted(kinds.filter(function (word, slot) { return slots[slot].id; })), function (word) { return word || "not known"; });
-  group("outcome", "Outcomes of the Deferreds that a line names", counted(numbers().map(outcomeOf)), function (end) { return (OUTCOMES[end] || "") + " " + end; });
+  group("kind", "Kinds of lines", counted(kinds.filter(function (word, slot) { return slots[slot].id; }), drawn ? drawn.kinds : []), function (word) { return word || "not known"; });
+  group("outcome", "Outcomes of the Deferreds that a line names", counted(numbers().map(outcomeOf), []), function (end) { return (OUTCOMES[end] || "") + " " + end; });
 }
 sieve.addEventListener("toggle", function () { if (!boxes.length && sieve.open) makeBoxes(); });
 if (slots.some(isLineRow)) sieve.hidden = false;

@@ -1,14 +1,17 @@
-"""What is seen of the lines that `./deferreds --json` has printed as they pass, without reading each: that they are whole, and how large
-the run is. What is wrong within a line is found by whoever reads it: the page, if it draws the run.
+"""What is seen of the lines that `./deferreds --json` has printed as they pass: that they are whole, and how large the run is.
+
+No line is read as JSON. A quote within a text is an escape, so a key with its quotes is in no text, and the keys of a line are in
+alphabetical order (docs/JSON.md). What is wrong within a line is found by the page, when it draws the run.
 """
 
 from __future__ import annotations
 
-import json
-from typing import IO, Any, Iterator, List, NamedTuple, Optional
-
-from .batches import NotBatches, read_batches
 from .sizes import counts_of
+
+#: (typing and json take longer to import than a page of 20,000 lines to write)
+TYPE_CHECKING = False
+if TYPE_CHECKING:
+    from typing import IO, Iterator
 
 _START = b'{"type":"start","version":1}\n'
 _ENTRY, _DEFERRED, _LEFT = b'"type":"entry"', b'"type":"deferred"', b'"type":"left"'
@@ -16,26 +19,19 @@ _ENTRY, _DEFERRED, _LEFT = b'"type":"entry"', b'"type":"deferred"', b'"type":"le
 _BLOCK = 1 << 18
 
 
-class Size(NamedTuple):
+class Size:
     """How large a run is, and its first lines."""
 
-    lines: int
-    deferreds: int
-    time: int
-    weight: str
-    first: List[str]
+    def __init__(self, lines: int, deferreds: int, time: int, weight: str, first: list[str]) -> None:
+        self.lines = lines
+        self.deferreds = deferreds
+        self.time = time
+        self.weight = weight
+        self.first = first
 
     def counts(self, events: int = 0, tick: str = "") -> str:
         """How large the run is, in words."""
         return counts_of(self.lines, self.deferreds, events, self.time, tick, self.weight)
-
-
-class _Last(NamedTuple):
-    """Where the last entry is that was seen: its block, its place in it, and how many lines come before that block."""
-
-    block: bytes
-    place: int
-    before: int
 
 
 def blocks_of(file: IO[bytes]) -> Iterator[bytes]:
@@ -48,13 +44,15 @@ def blocks_of(file: IO[bytes]) -> Iterator[bytes]:
 
 
 class Glance:
-    """Sees blocks of whole lines pass. A quote within a text is an escape, so what is looked for stands in no text."""
+    """Sees blocks of whole lines pass."""
 
     def __init__(self, most: int) -> None:
         self._most = most
-        self._first: List[bytes] = []
+        self._first: list[bytes] = []
         self._lines = 0
-        self._last: Optional[_Last] = None
+        #: the last entry that was seen, from the key `line` on, and how many lines come before it
+        self._last = b""
+        self._before = 0
         self._deferreds = self._left = 0
         self._end = b""
 
@@ -65,47 +63,63 @@ class Glance:
         missing = self._most + 1 - len(self._first)
         if missing > 0:
             self._first += filter(None, block.split(b"\n", missing)[:missing])
-        place = block.rfind(_ENTRY)
+        lines, place = block.count(b"\n"), block.rfind(_ENTRY)
         if place >= 0:
-            self._last = _Last(block, place, self._lines)
+            begins = block.rfind(b"\n", 0, place) + 1
+            self._last = block[begins : block.index(b"\n", place)].partition(b'"line":"')[2]
+            self._before = self._lines + lines - block.count(b"\n", begins)
             self._deferreds = self._left = 0
         after = max(0, place)
         self._deferreds += block.count(_DEFERRED, after)
         self._left += block.count(_LEFT, after)
-        self._lines += block.count(b"\n")
+        self._lines += lines
         self._end = block
 
-    def size(self) -> Optional[Size]:
+    def size(self) -> Size | None:
         """How large the run is; None if it isn't seen to be whole, so that each line has to be read."""
         try:
             return self._size()
-        except (ValueError, KeyError, TypeError, RecursionError, NotBatches):
+        except ValueError:
             return None
 
-    def _size(self) -> Optional[Size]:
-        if self._last is None or self._first[0] + b"\n" != _START or not self._end.endswith(b"}\n"):
+    def _size(self) -> Size | None:
+        if not self._last or self._first[0] + b"\n" != _START or not self._end.endswith(b"}\n"):
             return None
-        block, place, before = self._last
-        begins = block.rfind(b"\n", 0, place) + 1
-        entries = before + block.count(b"\n", 0, begins)
-        last = json.loads(block[begins : block.index(b"\n", place)])
-        end = json.loads(self._end[self._end.rfind(b"\n", 0, -1) + 1 :])
-        others = self._deferreds + self._left + 1
-        if last["number"] != entries - 1 or self._lines != 1 + entries + others:
+        count = int(_between(self._last, b'","number":', b","))
+        if count != self._before - 1 or self._lines != 1 + self._before + self._deferreds + self._left + 1:
             return None
-        if end["type"] != "end" or type(end["stopped"]) is not bool:
+        end = self._end[self._end.rfind(b"\n", 0, -1) + 1 :]
+        if b',"type":"end",' not in end or _between(end, b',"stopped":', b",") not in (b"true", b"false"):
             return None
-        read_batches(end["batches"])
-        lines = list(_lines(self._first[1:]))
-        return Size(entries, self._deferreds, int(last["time"]), f"{end['weight']:d} of {end['limit']:d}", lines)
+        if _between(end, b'{"batches":[', b'"').strip(b"[],0123456789"):
+            return None
+        weight, limit = int(_between(end, b',"weight":', b"}")), int(_between(end, b',"limit":', b","))
+        time = int(_between(self._last, b',"time":', b","))
+        return Size(self._before, self._deferreds, time, f"{weight} of {limit}", list(_lines(self._first[1:])))
 
 
-def _lines(told: List[bytes]) -> Iterator[str]:
-    """The first lines of the journal."""
+def _lines(told: list[bytes]) -> Iterator[str]:
+    """The first lines of the journal. Raises ValueError."""
     for one in told:
-        entry: Any = json.loads(one)
-        if entry["type"] != "entry":
+        if _ENTRY not in one:
             return
-        if not isinstance(entry["line"], str):
-            raise ValueError("a line")
-        yield entry["line"]
+        yield _text(_between(one, b'"line":"', b'","number":'))
+
+
+def _between(line: bytes, before: bytes, after: bytes) -> bytes:
+    """What is between two parts of a line. Raises ValueError if it has not both."""
+    start = line.index(before) + len(before)
+    return line[start : line.index(after, start)]
+
+
+def _text(told: bytes) -> str:
+    """The text that JSON has between quotes. Raises ValueError."""
+    text = told.decode("utf-8")
+    if "\\" not in text:
+        return text
+    if "\\u" in text or "\\/" in text:
+        import json
+
+        return str(json.loads(f'"{text}"'))
+    # (Python has the other escapes, too)
+    return text.encode("ascii", "backslashreplace").decode("unicode_escape")

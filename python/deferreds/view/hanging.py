@@ -1,6 +1,4 @@
-"""On what everything hangs that hasn't come: a row of the report is told of the one on which all else hangs, and of
-nothing else.
-"""
+"""What all that is left depends on: the report has a row for each cause, and none for what depends on another."""
 
 from __future__ import annotations
 

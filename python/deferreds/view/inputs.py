@@ -12,20 +12,15 @@ from typing import TYPE_CHECKING, NamedTuple, Optional, Sequence, Tuple
 from ..checkout import as_called, command_name
 from ..ending import say
 from ..program import NOT_RUN, NotRun, found
-from ..survey import ONE_OUTCOME, SEVERAL_OUTCOMES, TOO_MANY
 from .batches import Batches, text_of
-from .places import NotPlaces, read_places
+from .names import PLACES, STANDARD
 from .recordings import tick_beside
-from .refusals import read_refusal
-from .sources import PLACES, Source
+from .sources import Source
 
-# (what reads a run is imported where it is used: most of the time of a page that draws itself would go to that)
+# (what reads a run, places or orders is imported where it is used: most of the time of a page that draws itself would go to that)
 if TYPE_CHECKING:
     from .orders import Orders
     from .run import Run
-
-#: the name of standard input, and of standard output
-STANDARD = "-"
 
 USAGE, NO_INPUT, NO_OUTPUT = 64, 66, 73
 _STOPPED, _REFUSED, _BATCHES_REFUSED = 1, 2, 5
@@ -89,24 +84,36 @@ class Inputs(NamedTuple):
     def read_places(self) -> str:
         """The places that are given, or that stand beside the script or the journal, as JSON. What is wrong with the latter is a warning."""
         if self.places:
-            text = _text(_read(self.places), self.places)
-            try:
-                read_places(text)
-            except NotPlaces as why:
-                raise Failed(NO_INPUT, f"{self.places} doesn't tell places: {why}") from None
-            return text
+            return _given_places(self.places)
         source = self.script or self.main
-        path = Path(source).with_suffix(PLACES) if source != STANDARD else None
-        if path is None or not path.is_file():
-            return ""
-        try:
-            text = path.read_text(encoding="utf-8")
-            read_places(text)
-            return text
-        except (OSError, UnicodeDecodeError, NotPlaces) as why:
-            reason = why.strerror if isinstance(why, OSError) else why
-            say(f"{command_name('view')}: {path} isn't used, since it doesn't tell places: {reason}")
-            return ""
+        path = Path(source).with_suffix(PLACES)
+        return _places_beside(path) if source != STANDARD and path.is_file() else ""
+
+
+def _given_places(name: str) -> str:
+    """The places of a file that is named. Raises Failed."""
+    from .places import NotPlaces, read_places
+
+    text = _text(_read(name), name)
+    try:
+        read_places(text)
+    except NotPlaces as why:
+        raise Failed(NO_INPUT, f"{name} doesn't tell places: {why}") from None
+    return text
+
+
+def _places_beside(path: Path) -> str:
+    """The places of a file that stands beside a script or a journal, or an empty text with a warning."""
+    from .places import NotPlaces, read_places
+
+    try:
+        text = path.read_text(encoding="utf-8")
+        read_places(text)
+        return text
+    except (OSError, UnicodeDecodeError, NotPlaces) as why:
+        reason = why.strerror if isinstance(why, OSError) else why
+        say(f"{command_name('view')}: {path} isn't used, since it doesn't tell places: {reason}")
+        return ""
 
 
 class Told(NamedTuple):
@@ -158,6 +165,7 @@ class InOrders:
 
 def _survey(data: bytes, name: str, words: Sequence[str]) -> Orders:
     """Has `./deferreds` perform a script in the orders that these words ask for, and reads what it prints."""
+    from ..survey import ONE_OUTCOME, SEVERAL_OUTCOMES, TOO_MANY
     from .orders import NotOrders, read_orders
 
     status, told = _deferreds(data, "--json", "--orders", *words)
@@ -247,8 +255,8 @@ def _with_hint(why: str, text: str) -> str:
 
 
 def run_script(data: bytes, name: str, batches: Optional[str] = None) -> Told:
-    """Runs a script, in these batches if they are given. It is told by what `./deferreds --json` prints of the run; the journal alone,
-    where that word isn't known."""
+    """Runs a script, in these batches if they are given, by `./deferreds --json`. If the program doesn't know that option the journal is
+    all that there is."""
     words = () if batches is None else ("--batches", batches)
     status, told = _deferreds(data, "--json", *words)
     is_exact = status != USAGE or batches is not None
@@ -264,6 +272,8 @@ def run_script(data: bytes, name: str, batches: Optional[str] = None) -> Told:
 
 def _why_not(status: int, data: bytes, name: str) -> str:
     """Why a script was not run to its end: what `./deferreds --why` says, where it is refused."""
+    from .refusals import read_refusal
+
     refusal = read_refusal(_deferreds(data, "--why", is_quiet=True)[1]) if status == _REFUSED else None
     if refusal is None:
         return f"{shown_name(name)} was not run to its end"

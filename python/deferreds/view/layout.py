@@ -218,7 +218,7 @@ def text_width(fold: Fold, rows: Rows, events: Events) -> int:
 
 
 def _characters(fold: Fold, slot: Slot, events: Events) -> float:
-    """About how many characters a slot shows; what is told in smaller letters counts less."""
+    """About how many characters a slot shows; what has smaller letters counts less."""
     if slot.kind is SlotKind.HEAD:
         return 0.95 * (len(slot.text) + _at(fold.rows[slot.row], events))
     if slot.kind is not SlotKind.LINE:

@@ -5,16 +5,21 @@ It asks for nothing. `python/make_drawing` writes `drawing.html`, with its style
 
 from __future__ import annotations
 
-import json
 import os
 import zlib
 from binascii import b2a_base64
-from typing import IO, List, NamedTuple, Optional, Sequence
 
-from .glances import Glance, Size, blocks_of
+from .glances import Glance, blocks_of
 from .sizes import AT_A_TIME, MOST_WRITTEN
-from .sources import Source
 from .texts import escaped, shortened
+
+#: (typing and json take longer to import than a page of 20,000 lines to write)
+TYPE_CHECKING = False
+if TYPE_CHECKING:
+    from typing import IO
+
+    from .glances import Size
+    from .sources import Source
 
 #: how many lines are shown of a run that its page draws where no script runs, and how many characters of each
 MOST_PLAIN, _MOST_LINE = 300, 200
@@ -27,25 +32,21 @@ MARK = b"<!--the run-->"
 _LEVEL = 1
 
 
-def page_name(name: str, ending: str) -> str:
-    """The name of the page of a file, or of what else is written of it: it stands in the folder where the command is given."""
-    return os.path.splitext(os.path.basename(name))[0] + ending
-
-
-class LongPage(NamedTuple):
+class LongPage:
     """A page that draws its run itself, and how large the run is."""
 
-    page: bytes
-    size: Size
+    def __init__(self, page: bytes, size: Size) -> None:
+        self.page = page
+        self.size = size
 
 
 class Packed:
     """What a page is drawn from, compressed: what is known beside the lines, and the lines, which come block by block."""
 
-    def __init__(self, source: Source, first: Optional[int] = None, last: Optional[int] = None) -> None:
+    def __init__(self, known: bytes) -> None:
         self._packer = zlib.compressobj(_LEVEL, zlib.DEFLATED, -zlib.MAX_WBITS)
-        self._parts: List[bytes] = []
-        self.take(json.dumps([source, first, last, AT_A_TIME]).encode("ascii") + b"\n")
+        self._parts: list[bytes] = []
+        self.take(known)
 
     def take(self, block: bytes) -> None:
         """The next block."""
@@ -56,9 +57,25 @@ class Packed:
         return b2a_base64(b"".join([*self._parts, self._packer.flush()]), newline=False)
 
 
-def long_page(source: Source, file: IO[bytes], first: Optional[int] = None, last: Optional[int] = None) -> Optional[LongPage]:
-    """The page of the lines in a file; None if the run is short, or isn't seen to be whole."""
-    glance, packed = Glance(MOST_PLAIN), Packed(source, first, last)
+def known_of(source: Source, first: int | None = None, last: int | None = None) -> bytes:
+    """What is known beside the lines, and which part of them is asked for, in a line."""
+    import json
+
+    return json.dumps([source, first, last, AT_A_TIME]).encode("ascii") + b"\n"
+
+
+def known_of_title(title: str) -> bytes:
+    """What is known beside the lines of a run that has a title, and nothing else: the same line, in most cases without json."""
+    if title.isascii() and title.isprintable() and not set('"\\').intersection(title):
+        return f'[["{title}", false, "", "", "", null, null, ""], null, null, {AT_A_TIME}]\n'.encode("ascii")
+    from .sources import Source
+
+    return known_of(Source(title, False))
+
+
+def long_page(title: str, known: bytes, file: IO[bytes]) -> LongPage | None:
+    """The page of the lines in a file, with what is known beside them; None if the run is short, or isn't seen to be whole."""
+    glance, packed = Glance(MOST_PLAIN), Packed(known)
     try:
         for block in blocks_of(file):
             glance.take(block)
@@ -68,10 +85,10 @@ def long_page(source: Source, file: IO[bytes], first: Optional[int] = None, last
     size = glance.size()
     if size is None or size.lines <= MOST_WRITTEN:
         return None
-    return LongPage(page_that_draws(source.title, packed, size.lines, size.first), size)
+    return LongPage(page_that_draws(title, packed, size.lines, size.first), size)
 
 
-def page_that_draws(title: str, packed: Packed, lines: int, first: Sequence[str]) -> bytes:
+def page_that_draws(title: str, packed: Packed, lines: int, first: list[str]) -> bytes:
     """The page of this title that draws a run of so many lines. Where no script runs it shows the first ones."""
     with open(SHELL, "rb") as file:
         before, _, after = file.read().partition(MARK)
@@ -79,7 +96,7 @@ def page_that_draws(title: str, packed: Packed, lines: int, first: Sequence[str]
     return b"".join([before, head.encode("utf-8"), packed.text(), b"</pre>", after])
 
 
-def _plain(title: str, lines: int, first: Sequence[str]) -> str:
+def _plain(title: str, lines: int, first: list[str]) -> str:
     shown = "\n".join(escaped(shortened(line, _MOST_LINE)) for line in first)
     return (
         f"<noscript><h1>{escaped(title)}</h1><p>Without scripts this page shows the first {len(first)} of {lines} lines. "

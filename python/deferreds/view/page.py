@@ -6,6 +6,7 @@ from typing import Dict, Iterator, List, Optional, Tuple
 
 from .axis import Axis
 from .events import Events
+from .lines import WORDS
 from .markup import isolated, placed
 from .phrases import OfDeferred
 from .records import ArrowKind, Ended, Look, Record, State, ended
@@ -65,6 +66,13 @@ class Page:
         self._axis = Axis(run, self._markup)
         #: whether what isn't open at first comes later
         self._later = True
+
+    @property
+    def kinds(self) -> List[str]:
+        """The kinds of all lines that the page has, by their words; an empty text is that of lines that aren't known."""
+        rows = self._run.fold.rows
+        words = {rows[place].entry.word for place in self.there}
+        return sorted({word if word in WORDS else "" for word in words})
 
     @property
     def windows(self) -> List[range]:

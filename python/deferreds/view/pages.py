@@ -5,7 +5,7 @@ from __future__ import annotations
 from typing import Optional
 
 from .document import written
-from .long_pages import MOST_PLAIN, Packed, page_that_draws
+from .long_pages import MOST_PLAIN, Packed, known_of, page_that_draws
 from .page import Page
 from .run import Run
 from .sizes import MOST_WRITTEN
@@ -18,7 +18,7 @@ def page_of(source: Source, text: str, run: Run, first: Optional[int] = None, la
     rows = run.fold.rows
     if len(rows) <= MOST_WRITTEN:
         return written_page(run, first, last)
-    packed = Packed(source, first, last)
+    packed = Packed(known_of(source, first, last))
     packed.take(text.encode("utf-8"))
     return page_that_draws(source.title, packed, len(rows), [row.entry.line for row in rows[:MOST_PLAIN]]).decode("utf-8")
 

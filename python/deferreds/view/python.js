@@ -1,4 +1,4 @@
-// What Python means: the functions that `drawing.js` stands on. A tuple and a list are both an array.
+// What Python means: the functions that the view's modules stand on once they are JavaScript. A tuple and a list are both an array.
 var $NUMBER = /[\ud800-\udfff]/;
 function $true(x) {
   if (typeof x !== "object" || x === null) return Boolean(x);
@@ -344,7 +344,13 @@ function $isinstance(x, kind) {
 // modules
 var $m_re = {
   DOTALL: "s",
-  compile: function (pattern, flags) { return new $Pattern(pattern.replace(/\(\?P</g, "(?<"), (flags || "") + "u"); }
+  known: new Map(),
+  // (each is made once, as Python keeps them)
+  compile: function (pattern, flags) {
+    var key = (flags || "") + "u/" + pattern;
+    if (!$m_re.known.has(key)) $m_re.known.set(key, new $Pattern(pattern.replace(/\(\?P</g, "(?<"), (flags || "") + "u"));
+    return $m_re.known.get(key);
+  }
 };
 class $Pattern {
   constructor(text, flags) {
@@ -356,7 +362,6 @@ class $Pattern {
 }
 function $groups(found) { return found.slice(1); }
 function $groupdict(found) { return found.groups || {}; }
-var $m_html = { escape: function (text) { return !/[&<>"']/.test(text) ? text : text.replace(/[&<>"']/g, function (sign) { return { "&": "&amp;", "<": "&lt;", ">": "&gt;", '"': "&quot;", "'": "&#x27;" }[sign]; }); } };
 var $m_heapq = {
   heappush: function (heap, one) {
     var at = heap.length;

@@ -7,7 +7,7 @@ import re
 from pathlib import Path
 from typing import Any
 
-from .sources import RECORDING
+from .names import RECORDING
 
 _TICK = re.compile("(?:1/)?[1-9][0-9]{0,9} (?:s|ms|µs|ns)")
 

@@ -308,7 +308,7 @@ class Report:
         )
 
     def _object(self, one: Left) -> Optional[Finding]:
-        """What is told of an object, if it is one."""
+        """The row of an object that is left; None if what is left is no object."""
         if isinstance(one, LeftTokens):
             return self._tokens(one)
         if isinstance(one, LeftGetters):

@@ -41,7 +41,7 @@ class Run:
         self.read = self.unknown = 0
         #: the weight of the journal, and its limit
         self.weight: Optional[str] = None
-        #: the batches in which posts were taken, where that is told
+        #: the batches in which posts were taken, if that is known
         self.batches: Batches = ()
         #: where in the program Deferreds were made and events performed, as far as that is known; set before the report is asked for
         self.places: Places = NOWHERE

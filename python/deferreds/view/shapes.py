@@ -74,7 +74,7 @@ def arrow_class(kind: ArrowKind, fails: bool) -> str:
 def arrow(kind: ArrowKind, fails: bool, start: float, end: float, y: float, gap: float) -> Html:
     """An arrow from one lane to another, which begins beside the bar of the one and ends beside that of the other.
 
-    What it does is told by its head and its stroke; one of a failure has a stroke across.
+    Its head and its stroke show what it does; one of a failure has a stroke across.
     """
     way, name = (1 if end > start else -1), arrow_class(kind, fails)
     tail, head = start + way * (gap + 1), end - way * 6

@@ -2,8 +2,6 @@
 
 from __future__ import annotations
 
-from typing import Optional, Tuple
-
 #: how many lines a chart has at most, how many of them a longer run shows at a time, and how many its page has
 MOST_ROWS, AT_A_TIME, MOST_LINES = 5_000, 2_000, 100_000
 
@@ -27,7 +25,7 @@ def counts_of(lines: int, deferreds: int, events: int, time: int, tick: str, wei
     return ", ".join(parts)
 
 
-def said_of_parts(lines: int, first: Optional[int], last: Optional[int]) -> str:
+def said_of_parts(lines: int, first: int | None, last: int | None) -> str:
     """What is said of the lines that a page shows; an empty text if it shows all at once."""
     window, there = parts_of(lines, first, last)
     if len(window) < len(there):
@@ -35,7 +33,7 @@ def said_of_parts(lines: int, first: Optional[int], last: Optional[int]) -> str:
     return f", of which the chart shows {window.start + 1} to {window.stop}" if len(window) < lines else ""
 
 
-def parts_of(lines: int, first: Optional[int], last: Optional[int], most: int = AT_A_TIME) -> Tuple[range, range]:
+def parts_of(lines: int, first: int | None, last: int | None, most: int = AT_A_TIME) -> tuple[range, range]:
     """The places of the lines that a page shows at first, and of those that it has.
 
     If a part is asked for, by numbers from 1, it is both. Else the page has all lines, so many at a time."""

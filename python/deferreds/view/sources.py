@@ -6,10 +6,6 @@ import json
 from typing import NamedTuple, Optional, Sequence
 
 
-#: what the names of files end with that stand beside a script or a journal: its places, and the list of its recording
-PLACES, RECORDING = ".places.json", ".recording"
-
-
 class Source(NamedTuple):
     """A text of a journal with its outcomes, or of what `./deferreds --json` has printed, and what is known beside it."""
 

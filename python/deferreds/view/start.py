@@ -8,12 +8,16 @@ from __future__ import annotations
 import gc
 import os
 import sys
-from typing import Optional, Sequence
 
 from ..ending import ended, open_streams, say
-from .long_pages import LongPage, long_page, page_name
+from .long_pages import known_of_title, long_page
+from .names import PLACES, RECORDING, page_name
 from .sizes import said_of_parts
-from .sources import PLACES, RECORDING, Source
+
+#: (typing takes longer to import than all that is imported here)
+TYPE_CHECKING = False
+if TYPE_CHECKING:
+    from .long_pages import LongPage
 
 #: the options of which the page of a long run is written here
 _KNOWN = ({"--json"}, {"--json", "-o"})
@@ -26,18 +30,18 @@ def start(name: str = "view") -> None:
     sys.exit(ended(lambda: main(sys.argv[1:], name), name))
 
 
-def main(words: Sequence[str], name: str = "view") -> int:
+def main(words: list[str], name: str = "view") -> int:
     """The command."""
     target = _written(words)
     if target is None:
         from .command import main as main_of_all
 
-        return main_of_all(list(words))
+        return main_of_all(words)
     say(f"{name}: {target}")
     return 0
 
 
-def _written(words: Sequence[str]) -> Optional[str]:
+def _written(words: list[str]) -> str | None:
     """Writes the page of the words `--json FILE [-o PAGE]`, and says where and of how large a run; None if `command` has to."""
     given = dict(zip(words[::2], words[1::2]))
     if set(given) not in _KNOWN or len(words) != 2 * len(given) or any(one[:1] in ("", "-") for one in given.values()):
@@ -65,9 +69,10 @@ def _is_more(facts: str, target: str) -> bool:
     return os.path.exists(target) and os.path.samefile(facts, target)
 
 
-def _page_of(facts: str) -> Optional[LongPage]:
+def _page_of(facts: str) -> LongPage | None:
     with open(facts, "rb") as file:
-        return long_page(Source(os.path.basename(facts), False), file)
+        title = os.path.basename(facts)
+        return long_page(title, known_of_title(title), file)
 
 
 if __name__ == "__main__":

@@ -194,21 +194,21 @@ function fell() {
 function reach(line) {
   var row = document.getElementById("r" + line);
   if (!row) return;
+  reveal(row);
+  showWhole(row);
+}
+// ends what hides a row, and goes to it
+function reveal(row) {
   unfold([row]);
   if (row.hidden) fell();
+  if (row.hidden) unstrain();
+  if (row.hidden) unfold([row]);
   row.scrollIntoView({ block: "center" });
-  showWhole(row);
 }
 function follow() {
   var asked = /^#d=(\d+)$/.exec(location.hash), target = /^#r\d+$/.test(location.hash) && document.getElementById(location.hash.slice(1));
   var far = /^#r(\d+)$/.exec(location.hash);
   if (asked) return plant(asked[1]);
   if (far && !target && windowOf(Number(far[1]))) return openWindow(windowOf(Number(far[1])), function () { reach(far[1]); });
-  if (target && target.hidden) {
-    unfold([target]);
-    if (target.hidden) fell();
-    if (target.hidden) unstrain();
-    if (target.hidden) unfold([target]);
-    target.scrollIntoView({ block: "center" });
-  }
+  if (target && target.hidden) reveal(target);
 }

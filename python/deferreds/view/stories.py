@@ -65,7 +65,7 @@ class Step:
 
 
 class Mode(enum.Enum):
-    """How much is told of a Deferred: all; whom it waits for and who fires it; what it leads to; only who fires it."""
+    """How much of a Deferred is shown: all; whom it waits for and who fires it; what it leads to; only who fires it."""
 
     ALL = "all"
     UP = "up"
@@ -74,7 +74,7 @@ class Mode(enum.Enum):
 
 
 class Branch(NamedTuple):
-    """A line of a tree: a step, how deep it lies, and whether the Deferred that it names is told below it."""
+    """A line of a tree: a step, how deep it lies, and whether the steps of the Deferred that it names stand below it."""
 
     depth: int
     step: Step
@@ -202,7 +202,7 @@ class Stories:
 
     @staticmethod
     def _mode_below(step: Step, mode: Mode) -> Optional[Mode]:
-        """How much is told, below a step, of the Deferred that it names."""
+        """How much of the Deferred that a step names is shown below it."""
         if step.does in _UP:
             return Mode.UP if mode is not Mode.WHY else None
         if step.does is Does.FIRED:

@@ -1,4 +1,4 @@
-"""The view for a terminal. Nothing is told by colour alone."""
+"""The view for a terminal. Nothing is shown by colour alone."""
 
 from __future__ import annotations
 

@@ -4,16 +4,20 @@
 
 from __future__ import annotations
 
-import html
-import re
-from typing import Iterable, NewType
+#: (typing, html and re take longer to import than a page of 20,000 lines to write)
+TYPE_CHECKING = False
+if TYPE_CHECKING:
+    import re
+    from typing import Iterable, NewType
 
-#: a piece of a page: what `escaped` gave, and what this package itself has put round that
-Html = NewType("Html", str)
+    #: a piece of a page: what `escaped` gave, and what this package itself has put round that
+    Html = NewType("Html", str)
+else:
+    Html = str
 
 #: what isn't seen, what reorders what is seen, and what a terminal obeys: C0, DEL, C1, soft hyphen, combining joiner, fillers,
 #: zero widths, bidirectional marks, line and paragraph separators, variation selectors, tags, surrogates, what is no character
-_UNSEEN = re.compile(
+_UNSEEN = (
     "[\x00-\x1f\x7f-\x9f\xad\u034f\u061c\u115f\u1160\u17b4\u17b5\u180b-\u180f\u200b-\u200f\u2028-\u202e\u2060-\u206f\u3164"
     "\ud800-\udfff\ufe00-\ufe0f\ufeff\uffa0\ufff0-\uffff\U0001bca0-\U0001bca3\U0001d173-\U0001d17a\U000e0000-\U000e0fff]"
 )
@@ -23,7 +27,9 @@ def visible(text: str) -> str:
     """The text, in which each character that isn't seen is shown as an escape, as `\\u202e`."""
     if text.isascii() and text.isprintable():
         return text
-    return _UNSEEN.sub(_escape, text)
+    import re
+
+    return re.compile(_UNSEEN).sub(_escape, text)
 
 
 def _escape(found: re.Match[str]) -> str:
@@ -32,13 +38,14 @@ def _escape(found: re.Match[str]) -> str:
 
 
 def escaped(text: str) -> Html:
-    """The text as a piece of a page, which an element or an attribute in double quotes may hold."""
-    return Html(html.escape(visible(text), quote=True))
+    """The text as a piece of a page, which an element or an attribute in quotes may hold."""
+    return framed(Html(visible(text)))
 
 
 def framed(page: Html) -> Html:
-    """A page as an attribute in double quotes holds it, for a frame of another page."""
-    return Html(html.escape(page, quote=True))
+    """A page as an attribute in quotes holds it, for a frame of another page."""
+    safe = page.replace("&", "&amp;").replace("<", "&lt;").replace(">", "&gt;")
+    return Html(safe.replace('"', "&quot;").replace("'", "&#x27;"))
 
 
 def joined(pieces: Iterable[Html]) -> Html:

@@ -92,7 +92,7 @@ class Lock(Thing):
         self.last_given = [*self.last_given[-2:], (deferred, row)]
 
     def serve(self, row: int) -> Optional[int]:
-        """A token is given back: to the first that waits, who is told, or to nobody."""
+        """A token is released: it goes to the first waiter, which is returned, or to none."""
         self.times_back += 1
         first = next(iter(self.line), None)
         if first is None:

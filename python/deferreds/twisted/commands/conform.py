@@ -23,10 +23,9 @@ import sys
 from pathlib import Path
 from typing import List, Optional
 
+from ...bounds import MOST_ORDERS, MOST_SEED
 from ...checkout import as_called, command_name
 from ...ending import writing
-from ...sampling import MOST_SEED
-from ...survey import MOST_ORDERS
 from .. import grammar
 from ..programs import MOST_LATE, MOST_UNANSWERED, SECONDS, Broken
 

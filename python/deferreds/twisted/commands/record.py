@@ -39,7 +39,7 @@ from pathlib import Path
 from typing import List, Optional, Set, Tuple
 
 from ...checkout import as_called, command_name
-from ...view.sources import PLACES
+from ...view.names import PLACES
 
 from ..instruments import install
 from ..recording.agreeing import program

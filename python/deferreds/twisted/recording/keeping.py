@@ -11,7 +11,7 @@ import twisted
 from ...view.pages import page_of
 from ...view.run import run_of
 from ...view.sizes import several
-from ...view.sources import PLACES
+from ...view.names import PLACES
 from ...view.sources import Source
 from ..programs import Program
 from .agreeing import Agreement, agreement
