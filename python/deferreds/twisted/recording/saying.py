@@ -23,6 +23,7 @@ from .declaring import MOST_OF_EVENT, Declared
 from .outcomes import outcomes_of
 from .places import FreeNames, name_of_spot
 from .recorder import Problem, Recorder
+from .ticking import Uneven, changes_of, places_of
 from .whereabouts import Acted, actions_of, whereabouts_of
 
 _FINEST = 10**9
@@ -48,8 +49,11 @@ class Said:
         #: those of the problems that are of the size of the whole run alone: the script is of its beginning
         self.too_large: List[Problem] = []
         self._ended = len(recorder.events) if ended is None else min(ended, len(recorder.events))
+        #: what number of steps ticks have at first; None, if a script can't say what they have
+        self._tick_units: Optional[int] = None
         #: how many events the script has
         self.events = self._settle()
+        self._change_units()
         self._alike = Alike(self._runs)
         #: the bodies that the script declares, and those of the event that is being said, by their numbers of Python
         self._declared = Declared()
@@ -148,6 +152,28 @@ class Said:
             self._ended -= 1
         return sum(told[: self._ended])
 
+    def _change_units(self) -> None:
+        """Has ticks have as many steps as they had: each change is an event of its own, before the advance in which its first tick runs."""
+        cooperating = self._recorder.cooperator
+        if not isinstance(cooperating, Cooperating):
+            return
+        try:
+            changes = changes_of(cooperating.ticks)
+            places = places_of(changes[1:], self._recorder.events)
+        except Uneven:
+            return
+        self._tick_units = changes[0].units if changes else grammar.UNITS[-1]
+        if not places:
+            return
+        self.events += sum(place < self.events for place in places)
+        actions, begins, self.actions, self._begins = self.actions, self._begins, [], []
+        for place, (action, begin) in enumerate(zip(actions, begins)):
+            if place in places:
+                self.actions.append(Action(["units", places[place]]))
+                self._begins.append(begin)
+            self.actions.append(action)
+            self._begins.append(begin)
+
     def _name(self) -> None:
         """Names the Deferreds of the program by where they were made, in the order in which they were."""
         names = FreeNames()
@@ -210,10 +236,16 @@ class Said:
         """Says the journal, at which of its lines each event begins, and after how many of them Twisted did what an entry of the
         profile names."""
         texts = [part if type(part) is str else self._part(part) for part in self._recorder.parts]
+        changes = [place for place, action in enumerate(self.actions) if action[0] == "units"]
+        for place in changes:
+            begin = self._begins[place]
+            texts[begin] = f"units {self.actions[place][1]}\n{texts[begin]}"
         self.journal = "".join(texts).split("\n")[:-1]
         before = [0, *accumulate(text.count("\n") for text in texts)]
         self.quirks = [(before[place], entry) for place, entry in self._recorder.quirks]
         self.begins = [before[place] for place in self._begins]
+        for place in changes:
+            self.begins[place + 1] += 1
 
     def _part(self, part: Optional[Part]) -> str:
         """A part of a line, or its end."""
@@ -442,9 +474,8 @@ class Said:
         return [run for run in body.runs if run.began + self._recorder.preceding <= self._ended]
 
     def _cooperator(self, cooperating: Cooperating) -> Dict[str, int]:
-        full = {steps for steps, left in cooperating.ticks if left}
-        units = full.pop() if full else grammar.UNITS[-1]
-        if full or units not in grammar.UNITS or any(n > units for n, _ in cooperating.ticks):
+        units = self._tick_units
+        if units is None:
             raise self._cannot("ticks of different numbers of steps", "cooperator")
         delays = {exact(delay.seconds) for delay in cooperating.delays} or {Fraction(1)}
         delay = int(delays.pop() * self._scale)
@@ -508,7 +539,8 @@ class Said:
         """What the lines before each event weigh, and before the end of the script."""
         before = list(accumulate(map(_weight, self._recorder.parts), initial=0))
         begins = [*self._begins, len(self._recorder.parts)]
-        return [before[place] for place in begins[: self.events + 1]]
+        changes = accumulate((action[0] == "units" for action in self.actions), initial=0)
+        return [before[place] + more for place, more in zip(begins[: self.events + 1], changes)]
 
 
 def _weight(part: Optional[Part]) -> int:
