@@ -28,10 +28,13 @@ from .whereabouts import Acted, actions_of, whereabouts_of
 
 _FINEST = 10**9
 _LARGEST_SCALE = 10**10
-#: how large a recorded script may be: as large as one of the first version
-_MOST_LIMIT = LANGUAGE.most("limit", 1)
-_MOST_BYTES = LANGUAGE.most("bytes", 1)
-_MOST_NODES = LANGUAGE.most("nodes", 1)
+#: the first version whose scripts may be larger, and how large a script of the first and of the last version may be
+_LARGE_SINCE = LANGUAGE.smaller["before"]
+_SMALL_LIMIT, _MOST_LIMIT = (LANGUAGE.most("limit", version) for version in (1, _LARGE_SINCE))
+_SMALL_BYTES, _MOST_BYTES = (LANGUAGE.most("bytes", version) for version in (1, _LARGE_SINCE))
+_SMALL_NODES, _MOST_NODES = (LANGUAGE.most("nodes", version) for version in (1, _LARGE_SINCE))
+#: the fewest bytes that a node has: a digit, and what stands between it and the next
+_BYTES_OF_NODE = 2
 
 
 class CannotSay(Exception):
@@ -78,8 +81,7 @@ class Said:
         #: the script, as JSON
         self.text = ""
         if self.script is not None:
-            self._set_limit(self.script)
-            self.text = compact(self.script)
+            self._finish(self.script)
             self._refuse_size(self.script)
 
     @property
@@ -290,15 +292,29 @@ class Said:
         if self._declared.pairs:
             script["bodies"] = self._declared.pairs
         script["events"] = events
-        script["version"] = self._version(script)
         return script
 
+    def _finish(self, script: Dict[str, Any]) -> None:
+        """Sets the limit and the version of a script, and says it as JSON."""
+        self._set_limit(script)
+        script["version"] = self._version(script)
+        self.text = compact(script)
+        if script["version"] < _LARGE_SINCE and self._is_large(script):
+            script["version"] = _LARGE_SINCE
+            self.text = compact(script)
+
+    def _is_large(self, script: Dict[str, Any]) -> bool:
+        """Whether a script is longer, or has more nodes, than one of the first version may."""
+        size = len(self.text.encode())
+        return size > _SMALL_BYTES or (size > _SMALL_NODES * _BYTES_OF_NODE and nodes(script) > _SMALL_NODES)
+
     def _version(self, script: Dict[str, Any]) -> int:
-        """The least version that has the words of a script."""
+        """The least version that has the words of a script, and its limit."""
         keys = [key.since for key in LANGUAGE.keys_of("script") if key.key in script]
         words = {action[0] for _, action in actions_of(script, self.acted)}
         failures = [grammar.FAILURES_SINCE] if _has_failures([script["events"], self._declared.pairs]) else []
-        return max([*keys, *failures, *(grammar.SINCE.get(word, 1) for word in words)])
+        large = [_LARGE_SINCE] if script["limit"] > _SMALL_LIMIT else []
+        return max([*keys, *failures, *large, *(grammar.SINCE.get(word, 1) for word in words)])
 
     def _cannot(self, reason: str, kind: Optional[str] = None, place: str = "") -> CannotSay:
         self._problem(reason, kind, place)
@@ -486,9 +502,11 @@ class Said:
     # limits of scripts
 
     def _set_limit(self, script: Dict[str, Any]) -> None:
-        """Sets the limit of the journal, which is at least what the lines weigh."""
+        """Sets the limit of the journal, which is at least what the lines weigh. It isn't more than the first version has if that will do."""
         lines = self.journal[: self.lines]
         weight = len(lines) + len("".join(lines).encode())
+        if weight > _SMALL_LIMIT and self._weights()[self.events] <= _SMALL_LIMIT:
+            weight = _SMALL_LIMIT
         script["limit"] = min(_MOST_LIMIT, max(grammar.DEFAULT_LIMIT, weight))
 
     def _refuse_depth(self) -> None:
@@ -513,7 +531,7 @@ class Said:
             reasons.append("the journal weighs more than a script's may")
         if len(self.text.encode()) > _MOST_BYTES:
             reasons.append("the script is longer than one may be")
-        elif nodes(script) > _MOST_NODES:
+        elif len(self.text) > _MOST_NODES * _BYTES_OF_NODE and nodes(script) > _MOST_NODES:
             reasons.append("the script has more nodes than one may have")
         return reasons
 
@@ -531,9 +549,7 @@ class Said:
             or (size[place] <= _MOST_BYTES and count[place] <= _MOST_NODES and weights[place] <= _MOST_LIMIT)
         )
         script["events"] = events[: self.events]
-        script["version"] = self._version(script)
-        self._set_limit(script)
-        self.text = compact(script)
+        self._finish(script)
 
     def _weights(self) -> List[int]:
         """What the lines before each event weigh, and before the end of the script."""
