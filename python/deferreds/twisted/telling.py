@@ -272,8 +272,25 @@ class Failed:
         self.action = action
 
 
+class Ended:
+    """Among the parts of lines, two whole lines: that the helper of an action is made and fired, if it has one."""
+
+    helper: Optional[Record] = None
+
+    def __init__(self, action: Action) -> None:
+        self.action = action
+
+
+class Begun:
+    """What the program hands to Twisted to be called back. Among the parts of lines, a whole line: that it runs, if it has a name."""
+
+    #: the name by which the script declares it, and the one that an earlier run of the body around it has in its place
+    name: Optional[str] = None
+    alias: Optional["Begun"] = None
+
+
 #: a number is the name of the Deferred that was made as the one of this number
-Part = Union[str, int, Record, Thing, Time, Text, Outcome, Action, Failed]
+Part = Union[str, int, Record, Thing, Time, Text, Outcome, Action, Failed, Ended, Begun]
 Line = Tuple[Part, ...]
 
 
@@ -478,6 +495,10 @@ class Observer:
     def place(self) -> str:
         """Where the program is, if that is known."""
         return ""
+
+    def happening(self) -> Optional[Action]:
+        """The event that happens, or has happened last, if events are noted."""
+        return None
 
     @contextlib.contextmanager
     def undoing(self, record: Record) -> Iterator[None]:
@@ -704,6 +725,13 @@ class Observer:
 
     def end_steps(self, steps: Any, body: Any) -> None:
         """A task has ended, in a step that has no body."""
+
+    def begin_inline(self, body: Any) -> bool:
+        """The program is about to begin an inline body. Whether `end_inline_action` has to be called when it waits, or has ended."""
+        return False
+
+    def end_inline_action(self, action: Action) -> None:
+        """The action that has begun an inline body has ended."""
 
     def begin_await(self, frame: Frame, record: Record) -> Any:
         """An inline body awaits a Deferred."""

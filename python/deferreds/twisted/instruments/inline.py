@@ -54,7 +54,11 @@ def _act(watcher: Observer, gen: Any) -> Any:
         _begun.append(frame)
         return _cancellable(gen)
 
-    return watcher.act(action, make)
+    is_nested = watcher.begin_inline(body)
+    deferred = watcher.act(action, make)
+    if is_nested:
+        watcher.end_inline_action(action)
+    return deferred
 
 
 @switching

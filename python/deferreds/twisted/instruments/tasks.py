@@ -3,7 +3,7 @@
 from __future__ import annotations
 
 import sys
-from typing import Any, Callable, Dict, Iterator, List, Optional, Tuple
+from typing import Any, Callable, Dict, Iterator, List, NamedTuple, Optional
 
 from twisted.internet import task
 from twisted.internet.defer import AlreadyCalledError, Deferred
@@ -28,14 +28,21 @@ _stop_all = _Cooperator.stop
 _start_all = _Cooperator.start
 
 
+class Tick(NamedTuple):
+    """A tick of the Cooperator: how many steps it had, whether tasks were left after it, and the event in which it ran, if that is known."""
+
+    steps: int
+    left: bool
+    event: Optional[Action]
+
+
 class Cooperating:
     """What is kept of the Cooperator of a run."""
 
     def __init__(self, cooperator: Any) -> None:
         self.cooperator = cooperator
         self.delays: List[Time] = []
-        #: how many steps each tick had, and whether tasks were left after it
-        self.ticks: List[Tuple[int, bool]] = []
+        self.ticks: List[Tick] = []
         #: the steps of the tick that goes on
         self.steps = 0
         self.in_tick = False
@@ -174,7 +181,7 @@ def _run_tick(watcher: Observer, cooperating: Cooperating) -> None:
         _tick(cooperating.cooperator)
     finally:
         left = bool(cooperating.cooperator._tasks)
-        cooperating.ticks.append((cooperating.steps, left))
+        cooperating.ticks.append(Tick(cooperating.steps, left, watcher.happening()))
         cooperating.in_tick = False
 
 

@@ -4,7 +4,7 @@ from __future__ import annotations
 
 from typing import Any, Iterator, List, NamedTuple, Optional, Sequence, Tuple
 
-from ..telling import Action, Frame, Record, Thing, know_attributes
+from ..telling import Action, Begun, Frame, Record, Thing, know_attributes
 from ..texts import Outcome
 
 
@@ -18,8 +18,15 @@ class Unsayable:
         self.outcome = outcome
 
 
-class Body:
+#: a body that lies in more others than this is among the parts of lines at the beginning of each run, so that it can be declared
+SHALLOW = 2
+
+
+class Body(Begun):
     """What the program hands to Twisted to be called back."""
+
+    #: of an inline body that is declared: the name of the Deferred that calls it
+    helper: Optional[str] = None
 
     def __init__(self, kind: str, depth: int = 0) -> None:
         self.kind = kind
@@ -86,6 +93,7 @@ class Run(Frame):
         return False
 
 
+know_attributes(Body("event"), ("name", "alias", "helper"))
 know_attributes(
     Run("event"), ("end", "has_fired", "record", "awaits", "outer", "present", "anonymous", "passing", "expected")
 )
@@ -110,7 +118,7 @@ def deepest(actions: Sequence[Action]) -> Optional[Deepest]:
     best = -1
     while left:
         around, action = left.pop()
-        for body in _bodies(action):
+        for body in bodies_of(action):
             found.append((around, body.kind, in_words(action)))
             levels.append(levels[around] + 1 if around >= 0 else 1)
             if best < 0 or levels[-1] > levels[best]:
@@ -128,7 +136,8 @@ def deepest(actions: Sequence[Action]) -> Optional[Deepest]:
     return Deepest(found[best][2], _TOLD_PLAINLY[most] if most in kinds else None)
 
 
-def _bodies(action: Action) -> Iterator[Body]:
+def bodies_of(action: Action) -> Iterator[Body]:
+    """The bodies that an action hands to Twisted."""
     for part in action:
         if isinstance(part, Body):
             yield part

@@ -14,6 +14,7 @@ from ..telling import (
     NO_KEYWORDS,
     Action,
     Advance,
+    Ended,
     Failed,
     Frame,
     Observer,
@@ -25,7 +26,7 @@ from ..telling import (
     watched,
 )
 from ..texts import NULL, Outcome, Text, compact, weight_of
-from .bodies import Body, Run, Steps, Unsayable
+from .bodies import SHALLOW, Body, Run, Steps, Unsayable
 from .hiding import SECRETS, Hiding
 from .inside import CALLED, FINALIZED, KIND_OF_ACTION, MEDDLED, Inside, entry, is_entered, is_uncalled, worked_on
 from .places import Spots, place, spot
@@ -137,6 +138,10 @@ class Recorder(Observer):
     def place(self) -> str:
         """The place in the program."""
         return place()
+
+    def happening(self) -> Optional[Action]:
+        """The event that happens, or has happened last."""
+        return self.events[-1] if self.events else None
 
     def ask(self, call: Callable[[], Any]) -> Any:
         """What the program's code says of an object of its own. What it does beside that is recorded nowhere."""
@@ -409,6 +414,8 @@ class Recorder(Observer):
         """A side of the program's begins, and is the run of a body in which the program is."""
         run = Run("callback", given, body.depth, len(self.events))
         body.runs.append(run)
+        if body.depth > SHALLOW:
+            self.parts.append(body)
         self.frame = run
         self.acting = False
         return run
@@ -442,6 +449,8 @@ class Recorder(Observer):
         """Has the program do what it was called back for: a run of the body, on what it is given."""
         run = Run(kind, None if given is None else given[1], body.depth, len(self.events))
         body.runs.append(run)
+        if body.depth > SHALLOW:
+            self.parts.append(body)
         before, acting = self.frame, self.acting
         self.frame, self.acting = run, False
         try:
@@ -534,6 +543,17 @@ class Recorder(Observer):
         steps.bodies.remove(body)
         if body.runs[0].actions:
             self.problem("a task acts in the step in which it ends", "cooperator")
+
+    def begin_inline(self, body: Any) -> bool:
+        """The program is about to begin an inline body. Whether it does so in another one, so deep that a script may have to declare it."""
+        if self.frame.kind != "inline" or body.depth <= SHALLOW:
+            return False
+        self.parts.append(body)
+        return True
+
+    def end_inline_action(self, action: Action) -> None:
+        """The action that has begun it has ended."""
+        self.parts.append(Ended(action))
 
     def begin_await(self, frame: Frame, record: Record) -> Action:
         """An inline body awaits a Deferred."""

@@ -14,21 +14,27 @@ from ...language import LANGUAGE
 from .. import grammar
 from ..instruments.tasks import Cooperating
 from ..profile import Entry
-from ..script import depth, nodes
-from ..telling import Action, Advance, Failed, Part, Record, Thing, Time
+from ..script import nodes
+from ..telling import Action, Advance, Begun, Ended, Failed, Part, Record, Thing, Time
 from ..texts import Outcome, Text, compact
-from .bodies import Body, Run, Steps, Unsayable, deepest, in_words
+from .alike import Alike, exact, first_body, first_record
+from .bodies import Body, Run, Steps, Unsayable, bodies_of, deepest, in_words
+from .declaring import MOST_OF_EVENT, Declared
 from .outcomes import outcomes_of
 from .places import FreeNames, name_of_spot
 from .recorder import Problem, Recorder
+from .ticking import Uneven, changes_of, places_of
 from .whereabouts import Acted, actions_of, whereabouts_of
 
 _FINEST = 10**9
 _LARGEST_SCALE = 10**10
-#: how large a recorded script may be: as large as one of the first version
-_MOST_LIMIT = LANGUAGE.most("limit", 1)
-_MOST_BYTES = LANGUAGE.most("bytes", 1)
-_MOST_NODES = LANGUAGE.most("nodes", 1)
+#: the first version whose scripts may be larger, and how large a script of the first and of the last version may be
+_LARGE_SINCE = LANGUAGE.smaller["before"]
+_SMALL_LIMIT, _MOST_LIMIT = (LANGUAGE.most("limit", version) for version in (1, _LARGE_SINCE))
+_SMALL_BYTES, _MOST_BYTES = (LANGUAGE.most("bytes", version) for version in (1, _LARGE_SINCE))
+_SMALL_NODES, _MOST_NODES = (LANGUAGE.most("nodes", version) for version in (1, _LARGE_SINCE))
+#: the fewest bytes that a node has: a digit, and what stands between it and the next
+_BYTES_OF_NODE = 2
 
 
 class CannotSay(Exception):
@@ -46,29 +52,36 @@ class Said:
         #: those of the problems that are of the size of the whole run alone: the script is of its beginning
         self.too_large: List[Problem] = []
         self._ended = len(recorder.events) if ended is None else min(ended, len(recorder.events))
+        #: what number of steps ticks have at first; None, if a script can't say what they have
+        self._tick_units: Optional[int] = None
         #: how many events the script has
         self.events = self._settle()
-        #: the actions in each other that are being said
-        self._saying: List[Action] = []
+        self._change_units()
+        self._alike = Alike(self._runs)
+        #: the bodies that the script declares, and those of the event that is being said, by their numbers of Python
+        self._declared = Declared()
+        self._said: Dict[int, Any] = {}
+        #: by the numbers of Python for actions that add a pair which only fires another Deferred, what fires it
+        self._chains: Dict[int, Action] = {}
         self.records: List[Record] = []
-        self.rebinds = False
         #: by the numbers of Python for the arrays of the script that are actions, these, and what was noted of them
         self.acted: Acted = {}
         self._name()
         self._number()
         self._find_scale()
         self.script = self._script()
+        if self._declared.pairs:
+            self._number()
         self.journal: List[str] = []
         #: at which line of the journal each event of the script begins
         self.begins: List[int] = []
         self.quirks: List[Tuple[int, Entry]] = []
         self._say_lines()
-        self.outcomes = [f"#{r.number} {_first(r).name} {r.state()}" for r in self.records]
+        self.outcomes = [f"#{r.number} {first_record(r).name} {r.state()}" for r in self.records]
         #: the script, as JSON
         self.text = ""
         if self.script is not None:
-            self._set_limit(self.script)
-            self.text = compact(self.script)
+            self._finish(self.script)
             self._refuse_size(self.script)
 
     @property
@@ -141,6 +154,28 @@ class Said:
             self._ended -= 1
         return sum(told[: self._ended])
 
+    def _change_units(self) -> None:
+        """Has ticks have as many steps as they had: each change is an event of its own, before the advance in which its first tick runs."""
+        cooperating = self._recorder.cooperator
+        if not isinstance(cooperating, Cooperating):
+            return
+        try:
+            changes = changes_of(cooperating.ticks)
+            places = places_of(changes[1:], self._recorder.events)
+        except Uneven:
+            return
+        self._tick_units = changes[0].units if changes else grammar.UNITS[-1]
+        if not places:
+            return
+        self.events += sum(place < self.events for place in places)
+        actions, begins, self.actions, self._begins = self.actions, self._begins, [], []
+        for place, (action, begin) in enumerate(zip(actions, begins)):
+            if place in places:
+                self.actions.append(Action(["units", places[place]]))
+                self._begins.append(begin)
+            self.actions.append(action)
+            self._begins.append(begin)
+
     def _name(self) -> None:
         """Names the Deferreds of the program by where they were made, in the order in which they were."""
         names = FreeNames()
@@ -149,8 +184,9 @@ class Said:
                 record.name = names.give(name_of_spot(record.made_at))
 
     def _number(self) -> None:
-        """Numbers the Deferreds in the order of their lines, with the helpers of caught actions among them."""
-        if not any(action.caught for action in self._recorder.failed):
+        """Numbers the Deferreds in the order of their lines, with the helpers of caught actions and of nested ones among them."""
+        self.records.clear()
+        if not self._declared.pairs and not any(action.caught for action in self._recorder.failed):
             for record in self._recorder.records:
                 self._add_record(record)
             return
@@ -159,11 +195,18 @@ class Said:
             if before == "new " and isinstance(part, Record):
                 self._add_record(part)
             elif isinstance(part, Action) and part.caught:
-                part.helper = helper = Record()
-                helper.name = f"caught_{len(self.records)}"
-                helper.fired = helper.helper = True
-                self._add_record(helper)
+                self._add_record(part.helper or self._help(part, f"caught_{len(self.records)}"))
+            elif isinstance(part, Ended) and first_body(part.action[2]).helper is not None:
+                self._add_record(self._help(part, first_body(part.action[2]).helper))
             before = part
+
+    @staticmethod
+    def _help(part: Union[Action, Ended], name: str) -> Record:
+        """Gives a part of the lines a helper of this name."""
+        part.helper = helper = Record()
+        helper.name = name
+        helper.fired = helper.helper = True
+        return helper
 
     def _add_record(self, record: Record) -> None:
         record.number = len(self.records)
@@ -177,7 +220,7 @@ class Said:
         times += [part.to.seconds for part in self._recorder.parts if isinstance(part, Advance) and part.is_told]
         times += _times(self.actions)
         for seconds in times:
-            denominator = _exact(seconds).denominator
+            denominator = exact(seconds).denominator
             self._scale = self._scale * denominator // math.gcd(self._scale, denominator)
         if self._scale > _LARGEST_SCALE:
             self._problem("times that have no unit in common", "clock")
@@ -187,7 +230,7 @@ class Said:
             self._problem(f"a delay of {float(longest):g} seconds, where the other times need ticks of {self.tick}", "clock")
 
     def _units(self, time: Time) -> int:
-        return int(_exact(time.seconds) * self._scale)
+        return int(exact(time.seconds) * self._scale)
 
     # the journal
 
@@ -195,10 +238,16 @@ class Said:
         """Says the journal, at which of its lines each event begins, and after how many of them Twisted did what an entry of the
         profile names."""
         texts = [part if type(part) is str else self._part(part) for part in self._recorder.parts]
+        changes = [place for place, action in enumerate(self.actions) if action[0] == "units"]
+        for place in changes:
+            begin = self._begins[place]
+            texts[begin] = f"units {self.actions[place][1]}\n{texts[begin]}"
         self.journal = "".join(texts).split("\n")[:-1]
         before = [0, *accumulate(text.count("\n") for text in texts)]
         self.quirks = [(before[place], entry) for place, entry in self._recorder.quirks]
         self.begins = [before[place] for place in self._begins]
+        for place in changes:
+            self.begins[place + 1] += 1
 
     def _part(self, part: Optional[Part]) -> str:
         """A part of a line, or its end."""
@@ -209,17 +258,20 @@ class Said:
         if isinstance(part, (Text, Outcome)):
             return part.text
         if isinstance(part, int):
-            return str(_first(self._recorder.records[part]).name)
+            return str(first_record(self._recorder.records[part]).name)
         if isinstance(part, Time):
             return str(self._units(part))
         if isinstance(part, Advance):
             return f"advance {self._units(part.to)}\n" if part.is_told else ""
         if isinstance(part, Action):
-            helper = part.helper
-            return "" if helper is None else f"new #{helper.number} {helper.name}\n"
+            return "" if part.helper is None else _made(part.helper)
         if isinstance(part, Failed):
-            helper = part.action.helper
-            return "" if helper is None else f"fire #{helper.number} ok null\n"
+            return "" if part.action.helper is None else _fired(part.action.helper)
+        if isinstance(part, Ended):
+            return "" if part.helper is None else _made(part.helper) + _fired(part.helper)
+        if isinstance(part, Begun):
+            name = first_body(part).name
+            return "" if name is None else f"body {name}\n"
         return str(part)
 
     # the script
@@ -227,47 +279,121 @@ class Said:
     def _script(self) -> Optional[Dict[str, Any]]:
         script: Dict[str, Any] = {"version": 1, "limit": _MOST_LIMIT}
         try:
-            events = [self._action(action) for action in self.actions[: self.events]]
+            inner = [self._find_bodies(action) for action in self.actions[: self.events]]
+            events = [self._event(action, bodies) for action, bodies in zip(self.actions, inner)]
             if isinstance(self._recorder.cooperator, Cooperating):
                 script["cooperator"] = self._cooperator(self._recorder.cooperator)
         except CannotSay:
-            return None
-        except RecursionError:
-            self._refuse_depth()
             return None
         if self._recorder.pools:
             script["pools"] = [[pool.thing.name, pool.workers] for pool in self._recorder.pools]
         if self._recorder.classes.declared:
             script["classes"] = [list(pair) for pair in self._recorder.classes.declared]
+        if self._declared.pairs:
+            script["bodies"] = self._declared.pairs
         script["events"] = events
-        script["version"] = self._version(script)
         return script
 
+    def _finish(self, script: Dict[str, Any]) -> None:
+        """Sets the limit and the version of a script, and says it as JSON."""
+        self._set_limit(script)
+        script["version"] = self._version(script)
+        self.text = compact(script)
+        if script["version"] < _LARGE_SINCE and self._is_large(script):
+            script["version"] = _LARGE_SINCE
+            self.text = compact(script)
+
+    def _is_large(self, script: Dict[str, Any]) -> bool:
+        """Whether a script is longer, or has more nodes, than one of the first version may."""
+        size = len(self.text.encode())
+        return size > _SMALL_BYTES or (size > _SMALL_NODES * _BYTES_OF_NODE and nodes(script) > _SMALL_NODES)
+
     def _version(self, script: Dict[str, Any]) -> int:
-        """The least version that has the words of a script."""
+        """The least version that has the words of a script, and its limit."""
         keys = [key.since for key in LANGUAGE.keys_of("script") if key.key in script]
         forms = {(action[0], len(action) - 1) for _, action in actions_of(script, self.acted)}
-        failures = [grammar.FAILURES_SINCE] if _has_failures(script["events"]) else []
-        return max([*keys, *failures, *(grammar.ACTIONS_SINCE.get(form, 1) for form in forms)])
+        failures = [grammar.FAILURES_SINCE] if _has_failures([script["events"], self._declared.pairs]) else []
+        large = [_LARGE_SINCE] if script["limit"] > _SMALL_LIMIT else []
+        return max([*keys, *failures, *large, *(grammar.ACTIONS_SINCE.get(form, 1) for form in forms)])
 
     def _cannot(self, reason: str, kind: Optional[str] = None, place: str = "") -> CannotSay:
         self._problem(reason, kind, place)
         return CannotSay(reason)
 
+    def _find_bodies(self, event: Action) -> Sequence[Body]:
+        """The bodies of an event, each before those that lie in it. The runs of each have to be the same."""
+        if not any(isinstance(part, (Body, Steps)) for part in event):
+            return ()
+        found: List[Body] = []
+        left = [event]
+        while left:
+            action = left.pop()
+            chained = self._chained(action)
+            if chained is not None:
+                self._chains[id(action)] = chained
+                continue
+            for body in bodies_of(action):
+                found.append(body)
+                runs = self._compared(body, action)
+                if runs:
+                    left += reversed(runs[0].actions)
+        return found
+
+    def _compared(self, body: Body, action: Action) -> Sequence[Run]:
+        """The runs of a body of an action, which have to be the same."""
+        runs = self._runs(body)
+        for other in runs[1:]:
+            if not self._alike.are_same(runs[0], other):
+                kind = "loop" if body.kind == "turn" else None
+                raise self._cannot(f"a {body.kind} ran more than once, and did something else", kind, in_words(action))
+        return runs
+
+    def _event(self, action: Action, bodies: Sequence[Body]) -> List[Any]:
+        """An event, in which these bodies lie. If they do so too deep for a script, some are declared."""
+        if not bodies:
+            return self._action(action)
+        words = self._with_bodies(action, bodies, False)
+        if self._declared.height(words) > MOST_OF_EVENT:
+            words = self._with_bodies(action, bodies, True)
+        if self._declared.height(words) > MOST_OF_EVENT or len(self._declared.pairs) > grammar.MOST_BODIES:
+            self._refuse_depth()
+            raise CannotSay
+        return words
+
+    def _with_bodies(self, action: Action, bodies: Sequence[Body], declares: bool) -> List[Any]:
+        """An event, whose bodies are said before it, those first that lie in others."""
+        self._said.clear()
+        self._declared.begin_event(declares)
+        for body in reversed(bodies):
+            said = self._said[id(body)] = self._say_body(body)
+            self._declared.measure(said)
+        return self._action(action)
+
     def _action(self, said: Action) -> List[Any]:
-        self._saying.append(said)
         words = self._words(said)
-        self._saying.pop()
         self.acted[id(words)] = words, said
         return words
 
     def _words(self, said: Action) -> List[Any]:
-        chained = self._as_chain(said)
+        chained = self._chains.get(id(said))
         if chained is not None:
-            return chained
+            return ["chain", self._say(said[1]), self._say(chained[1])]
         if said[0] == "errback" and isinstance(said[2], list):
             return [self._say(part) for part in (said[0], said[1], *said[2][1:])]
-        return [self._say(part) for part in said]
+        words = [self._say(part) for part in said]
+        if self._declared.is_on:
+            for place, part in enumerate(said):
+                if isinstance(part, Body):
+                    words[place] = self._named(part, words[place], said)
+                elif isinstance(part, Steps):
+                    words[place] = [self._named(body, step, said) for body, step in zip(part.bodies, words[place])]
+        return words
+
+    def _named(self, body: Body, said: Any, action: Action) -> Any:
+        """What stands for a body of an action: its name, if it lies in others and is too tall for a script."""
+        if body.kind == "inline" or not self._declared.can_name(body, said):
+            return said
+        return self._declared.name(body, said, _name_in(action))
 
     def _say(self, part: Any) -> Any:
         """A part of an action, in the words of the language."""
@@ -282,9 +408,9 @@ class Said:
         if isinstance(part, Unsayable):
             raise self._cannot(part.reason, None, part.place)
         if isinstance(part, Body):
-            return self._body(part)
+            return self._said[id(part)]
         if isinstance(part, Steps):
-            return [self._body(body) for body in part.bodies]
+            return [self._said[id(body)] for body in part.bodies]
         if isinstance(part, list):
             return [self._say(item) for item in part]
         return part
@@ -292,44 +418,37 @@ class Said:
     def _deferred(self, record: Record) -> str:
         if record.hidden_of is not None:
             raise self._cannot("the hidden Deferred of a cancelled inline body is used", "inline")
-        name = _first(record).name
+        name = first_record(record).name
         if name is None or name == "-":
             raise self._cannot("a Deferred without a name is used by the program")
         return name
 
-    def _as_chain(self, said: Action) -> Optional[List[Any]]:
-        """A pair that only fires another Deferred with what it was given, which may be no value of the language."""
+    def _chained(self, said: Action) -> Optional[Action]:
+        """What fires another Deferred, if this adds a pair that only does so with what it was given, which may be no value of the language."""
         if said[0] not in ("addCallback", "addErrback", "addBoth", "addCallbacks"):
             return None
         ran = [run for body in said[2:] for run in self._runs(body)]
         if len(ran) != 1 or len(ran[0].actions) != 1 or ran[0].end not in (None, ["return", None]):
             return None
-        fired = ran[0].actions[0]
+        fired: Action = ran[0].actions[0]
         given = ran[0].given
         if fired[0] not in ("callback", "errback") or not isinstance(fired[2], Unsayable):
             return None
-        if given is None or fired[2].outcome != given.text:
-            return None
-        return ["chain", self._say(said[1]), self._say(fired[1])]
+        return fired if given is not None and fired[2].outcome == given.text else None
 
-    def _body(self, body: Body) -> Any:
-        if body.kind == "inline":
-            return self._statements(body)
+    def _say_body(self, body: Body) -> Any:
+        """A body, in which others are said already."""
         runs = self._runs(body)
+        if body.kind == "inline":
+            return self._statements(runs[0]) if runs else []
         if not runs:
             return {}
-        first = runs[0]
-        for other in runs[1:]:
-            if not self._same_run(first, other):
-                kind = "loop" if body.kind == "turn" else None
-                place = in_words(self._saying[-1]) if self._saying else ""
-                raise self._cannot(f"a {body.kind} ran more than once, and did something else", kind, place)
         said: Dict[str, Any] = {}
-        actions = [self._helped(action) for action in first.actions]
+        actions = [self._helped(action) for action in runs[0].actions]
         if actions:
             said["do"] = actions
-        if first.end is not None:
-            said["end"] = self._say(first.end)
+        if runs[0].end is not None:
+            said["end"] = self._say(runs[0].end)
         return said
 
     def _helped(self, action: Action) -> List[Any]:
@@ -339,19 +458,30 @@ class Said:
             return said
         return ["inline", action.helper.name, [["try", [["do", said]], ["Exception"], []]]]
 
-    def _statements(self, body: Body) -> List[Any]:
-        runs = self._runs(body)
-        if not runs:
-            return []
-        statements: List[Any] = []
-        for action in runs[0].actions:
-            said = self._action(action)
-            statement = said if said[0] == "await" else ["do", said]
-            caught = action.raised is not None and action.caught
-            statements.append(["try", [statement], ["Exception"], []] if caught else statement)
-        if runs[0].end is not None:
-            statements.append(["end", self._say(runs[0].end)])
+    def _statements(self, run: Run) -> List[Any]:
+        statements = [self._statement(action) for action in run.actions]
+        if run.end is not None:
+            statements.append(["end", self._say(run.end)])
         return statements
+
+    def _statement(self, action: Action) -> List[Any]:
+        """An action of an inline body. One that begins another inline body is called by a helper, if that lies too deep."""
+        said = self._action(action)
+        if said[0] == "await":
+            statement = said
+        else:
+            statement = ["do", self._called(action, said) if said[0] == "inline" else said]
+        caught = action.raised is not None and action.caught
+        return ["try", [statement], ["Exception"], []] if caught else statement
+
+    def _called(self, action: Action, said: List[Any]) -> List[Any]:
+        """An action that begins an inline body: as it is, or as the body of a helper, which has a name."""
+        body: Body = action[2]
+        if action.raised is not None or not self._declared.can_name(body, said):
+            return said
+        name = self._declared.name(body, {"do": [said]}, _name_in(action))
+        body.helper = f"nested:{len(self._declared.pairs)}"
+        return ["maybe", body.helper, name]
 
     def _runs(self, body: Body) -> Sequence[Run]:
         """The runs of a body, but for those of an event that isn't part of the script."""
@@ -360,80 +490,23 @@ class Said:
         return [run for run in body.runs if run.began + self._recorder.preceding <= self._ended]
 
     def _cooperator(self, cooperating: Cooperating) -> Dict[str, int]:
-        full = {steps for steps, left in cooperating.ticks if left}
-        units = full.pop() if full else grammar.UNITS[-1]
-        if full or units not in grammar.UNITS or any(n > units for n, _ in cooperating.ticks):
+        units = self._tick_units
+        if units is None:
             raise self._cannot("ticks of different numbers of steps", "cooperator")
-        delays = {_exact(delay.seconds) for delay in cooperating.delays} or {Fraction(1)}
+        delays = {exact(delay.seconds) for delay in cooperating.delays} or {Fraction(1)}
         delay = int(delays.pop() * self._scale)
         if delays or delay < 1:
             raise self._cannot("ticks that are due after different times, or at once", "cooperator")
         return {"units": units, "delay": delay}
 
-    # runs of one body, which have to be the same but for what they make
-
-    def _same_run(self, first: Run, other: Run) -> bool:
-        if len(first.actions) != len(other.actions) or not self._same(first.end, other.end):
-            return False
-        return all(
-            one.caught == two.caught and self._same(one, two)
-            for one, two in zip(first.actions, other.actions)
-        )
-
-    def _same(self, one: Any, two: Any) -> bool:
-        if isinstance(one, Record) and isinstance(two, Record):
-            return self._same_record(one, two)
-        if isinstance(one, Thing) and isinstance(two, Thing):
-            return self._same_thing(one, two)
-        if isinstance(one, Time) and isinstance(two, Time):
-            return _exact(one.seconds) == _exact(two.seconds)
-        if isinstance(one, Body) and isinstance(two, Body):
-            return self._same_body(one, two)
-        if isinstance(one, Steps) and isinstance(two, Steps):
-            return self._same(one.bodies, two.bodies)
-        if isinstance(one, list) and isinstance(two, list):
-            return len(one) == len(two) and all(map(self._same, one, two))
-        if isinstance(one, Unsayable) and isinstance(two, Unsayable):
-            return True
-        return type(one) is type(two) and bool(one == two)
-
-    def _same_record(self, one: Record, two: Record) -> bool:
-        one, two = _first(one), _first(two)
-        if one is two:
-            return True
-        if one.made_in is None or two.made_in is None or one.made_in is two.made_in:
-            return False
-        if one.made_in.kind == "event" or two.made_in.kind == "event":
-            return False
-        self.rebinds = True
-        two.alias = one
-        return True
-
-    def _same_thing(self, one: Thing, two: Thing) -> bool:
-        while one.alias is not None:
-            one = one.alias
-        while two.alias is not None:
-            two = two.alias
-        if one is not two:
-            self.rebinds = True
-            two.alias = one
-        return True
-
-    def _same_body(self, one: Body, two: Body) -> bool:
-        first, other = self._runs(one), self._runs(two)
-        if not other:
-            return True
-        if not first:
-            one.runs = two.runs
-            return True
-        return self._same_run(first[0], other[0])
-
     # limits of scripts
 
     def _set_limit(self, script: Dict[str, Any]) -> None:
-        """Sets the limit of the journal, which is at least what the lines weigh."""
+        """Sets the limit of the journal, which is at least what the lines weigh. It isn't more than the first version has if that will do."""
         lines = self.journal[: self.lines]
         weight = len(lines) + len("".join(lines).encode())
+        if weight > _SMALL_LIMIT and self._weights()[self.events] <= _SMALL_LIMIT:
+            weight = _SMALL_LIMIT
         script["limit"] = min(_MOST_LIMIT, max(grammar.DEFAULT_LIMIT, weight))
 
     def _refuse_depth(self) -> None:
@@ -443,8 +516,6 @@ class Said:
 
     def _refuse_size(self, script: Dict[str, Any]) -> None:
         """Notes what is larger than a script may be. Where that is the whole run, the script is cut to its beginning."""
-        if depth(self.text) > grammar.DEEPEST:
-            self._refuse_depth()
         if len(script.get("classes", [])) > grammar.MOST_CLASSES:
             self._problem("the script has more classes than one may have")
         reasons = self._too_large(script)
@@ -460,7 +531,7 @@ class Said:
             reasons.append("the journal weighs more than a script's may")
         if len(self.text.encode()) > _MOST_BYTES:
             reasons.append("the script is longer than one may be")
-        elif nodes(script) > _MOST_NODES:
+        elif len(self.text) > _MOST_NODES * _BYTES_OF_NODE and nodes(script) > _MOST_NODES:
             reasons.append("the script has more nodes than one may have")
         return reasons
 
@@ -478,15 +549,14 @@ class Said:
             or (size[place] <= _MOST_BYTES and count[place] <= _MOST_NODES and weights[place] <= _MOST_LIMIT)
         )
         script["events"] = events[: self.events]
-        script["version"] = self._version(script)
-        self._set_limit(script)
-        self.text = compact(script)
+        self._finish(script)
 
     def _weights(self) -> List[int]:
         """What the lines before each event weigh, and before the end of the script."""
         before = list(accumulate(map(_weight, self._recorder.parts), initial=0))
         begins = [*self._begins, len(self._recorder.parts)]
-        return [before[place] for place in begins[: self.events + 1]]
+        changes = accumulate((action[0] == "units" for action in self.actions), initial=0)
+        return [before[place] + more for place, more in zip(begins[: self.events + 1], changes)]
 
 
 def _weight(part: Optional[Part]) -> int:
@@ -501,7 +571,28 @@ def _weight(part: Optional[Part]) -> int:
         return 0 if part.helper is None else 1
     if isinstance(part, Failed):
         return 0 if part.action.helper is None else 2
+    if isinstance(part, Ended):
+        return 0 if part.helper is None else 3
+    if isinstance(part, Begun):
+        return 0 if first_body(part).name is None else 1
     return 0
+
+
+def _made(helper: Record) -> str:
+    """The line that a helper is made."""
+    return f"new #{helper.number} {first_record(helper).name}\n"
+
+
+def _fired(helper: Record) -> str:
+    """The line that it is fired."""
+    return f"fire #{helper.number} ok null\n"
+
+
+def _name_in(action: Action) -> str:
+    """The name of the first object that an action names."""
+    named = next((part for part in action if isinstance(part, (Record, Thing))), None)
+    name = first_record(named).name if isinstance(named, Record) else named and named.name
+    return name if name and name != "-" else "body"
 
 
 def _second_part(count: int) -> str:
@@ -510,10 +601,6 @@ def _second_part(count: int) -> str:
         if factor % count == 0:
             return f"{factor // count} {unit}"
     return f"1/{count} s"
-
-
-def _exact(seconds: Union[float, Fraction]) -> Fraction:
-    return Fraction(seconds).limit_denominator(_FINEST)
 
 
 def _has_failures(events: List[Any]) -> bool:
@@ -528,13 +615,6 @@ def _has_failures(events: List[Any]) -> bool:
                 return True
             left += part.values()
     return False
-
-
-def _first(record: Record) -> Record:
-    """The Deferred that an earlier run of the same body made in its place."""
-    while record.alias is not None:
-        record = record.alias
-    return record
 
 
 def _times(part: Any) -> Iterator[Union[float, Fraction]]:

@@ -43,7 +43,8 @@ def whereabouts_of(
 
 def actions_of(script: Optional[Dict[str, Any]], acted: Acted) -> Iterator[Tuple[str, Action]]:
     """Each action that the script says, with its JSON Pointer there, in order."""
-    todo: List[Tuple[str, Any]] = [("/events", script["events"] if script is not None else [])]
+    keys = ("events", "bodies")
+    todo: List[Tuple[str, Any]] = [(f"/{key}", script[key]) for key in keys if script is not None and key in script]
     while todo:
         pointer, value = todo.pop()
         if isinstance(value, list):

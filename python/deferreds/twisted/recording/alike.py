@@ -1,0 +1,128 @@
+"""Compares the runs of one body, which have to be the same but for what they make.
+
+What a later run makes has the name of what the first one made in its place: a script binds that name anew.
+"""
+
+from __future__ import annotations
+
+from fractions import Fraction
+from typing import Any, Callable, List, Optional, Sequence, Tuple, Union
+
+from ..telling import Action, Record, Thing, Time
+from .bodies import Body, Run, Steps, Unsayable
+
+_FINEST = 10**9
+
+_Pairs = List[Tuple[Any, Any]]
+
+
+def exact(seconds: Union[float, Fraction]) -> Fraction:
+    """A time, as the fraction that its float stands for."""
+    return Fraction(seconds).limit_denominator(_FINEST)
+
+
+def first_record(record: Record) -> Record:
+    """The Deferred that an earlier run of the same body made in its place."""
+    while record.alias is not None:
+        record = record.alias
+    return record
+
+
+def first_body(body: Any) -> Any:
+    """The body that an earlier run of the body around it has in its place."""
+    while body.alias is not None:
+        body = body.alias
+    return body
+
+
+class Alike:
+    """Compares runs. However deep bodies lie in each other, this takes no room on the stack."""
+
+    def __init__(self, runs_of: Callable[[Body], Sequence[Run]]) -> None:
+        """`runs_of`: the runs of a body that count."""
+        self._runs_of = runs_of
+
+    def are_same(self, first: Run, other: Run) -> bool:
+        """Whether two runs are the same. If so, what the other one has is known as what the first one has in its place."""
+        left: _Pairs = [(first, other)]
+        while left:
+            within = self._within(*left.pop())
+            if within is None:
+                return False
+            left += reversed(within)
+        return True
+
+    def _within(self, one: Any, two: Any) -> Optional[_Pairs]:
+        """What has to be the same for these to be, each part of one with that of the other; None, where they aren't."""
+        if isinstance(one, Run) and isinstance(two, Run):
+            return self._within_runs(one, two)
+        if isinstance(one, Body) and isinstance(two, Body):
+            return self._within_bodies(one, two)
+        if isinstance(one, Steps) and isinstance(two, Steps):
+            return _paired(one.bodies, two.bodies)
+        if isinstance(one, list) and isinstance(two, list):
+            return _paired(one, two)
+        return [] if _is_same(one, two) else None
+
+    def _within_runs(self, one: Run, two: Run) -> Optional[_Pairs]:
+        if len(one.actions) != len(two.actions):
+            return None
+        if not all(map(_are_caught_alike, one.actions, two.actions)):
+            return None
+        return [(one.end, two.end), *zip(one.actions, two.actions)]
+
+    def _within_bodies(self, one: Body, two: Body) -> _Pairs:
+        if one is two:
+            return []
+        two.alias = one
+        first, others = self._runs_of(one), self._runs_of(two)
+        if not first:
+            one.runs = two.runs
+            return []
+        return [(first[0], other) for other in others]
+
+
+def _paired(one: Sequence[Any], two: Sequence[Any]) -> Optional[_Pairs]:
+    return list(zip(one, two)) if len(one) == len(two) else None
+
+
+def _are_caught_alike(one: Action, two: Action) -> bool:
+    """Whether the failures of both were caught, or of neither. The helper of the other one has the name of the first one's."""
+    if one.helper is not None and two.helper is not None and one is not two:
+        two.helper.alias = one.helper
+    return one.caught == two.caught
+
+
+def _is_same(one: Any, two: Any) -> bool:
+    """Whether two parts that have no parts are the same."""
+    if isinstance(one, Record) and isinstance(two, Record):
+        return _is_same_record(one, two)
+    if isinstance(one, Thing) and isinstance(two, Thing):
+        return _is_same_thing(one, two)
+    if isinstance(one, Time) and isinstance(two, Time):
+        return exact(one.seconds) == exact(two.seconds)
+    if isinstance(one, Unsayable) and isinstance(two, Unsayable):
+        return True
+    return type(one) is type(two) and bool(one == two)
+
+
+def _is_same_record(one: Record, two: Record) -> bool:
+    one, two = first_record(one), first_record(two)
+    if one is two:
+        return True
+    if one.made_in is None or two.made_in is None or one.made_in is two.made_in:
+        return False
+    if one.made_in.kind == "event" or two.made_in.kind == "event":
+        return False
+    two.alias = one
+    return True
+
+
+def _is_same_thing(one: Thing, two: Thing) -> bool:
+    while one.alias is not None:
+        one = one.alias
+    while two.alias is not None:
+        two = two.alias
+    if one is not two:
+        two.alias = one
+    return True

@@ -1,0 +1,78 @@
+"""How many steps the ticks of a Cooperator had, as a script says it: a number, and where it changes."""
+
+from __future__ import annotations
+
+from typing import Dict, List, NamedTuple, Optional, Sequence
+
+from .. import grammar
+from ..instruments.tasks import Tick
+from ..telling import Action, Advance
+
+
+class Uneven(Exception):
+    """No numbers give the steps of the ticks."""
+
+
+class Change(NamedTuple):
+    """From an event on, each tick has at most so many steps."""
+
+    event: Optional[Action]
+    units: int
+
+
+class _Stretch:
+    """Ticks in a row for which one number will do."""
+
+    def __init__(self, first: Tick) -> None:
+        self.event = first.event
+        #: how many steps each tick has after which tasks are left, once there was one, and the most that any has
+        self._exact: Optional[int] = None
+        self._most = 0
+
+    def takes(self, tick: Tick) -> bool:
+        """Takes a tick that comes next, if one number will do for that, too. Gives whether it does."""
+        most = max(self._most, tick.steps)
+        exact = tick.steps if tick.left else self._exact
+        if self._exact not in (None, exact) or (exact is not None and exact < most):
+            return False
+        self._exact, self._most = exact, most
+        return True
+
+    @property
+    def units(self) -> int:
+        """The number: if any from the most on will do, the largest that a script may have. Raises Uneven, if a script can't have it."""
+        units = grammar.UNITS[-1] if self._exact is None else self._exact
+        if units not in grammar.UNITS or self._most > units:
+            raise Uneven
+        return units
+
+
+def changes_of(ticks: Sequence[Tick]) -> List[Change]:
+    """What number the ticks have at first, and where it changes. Raises Uneven, if no numbers give what happened."""
+    stretches: List[_Stretch] = []
+    before: Optional[Action] = None
+    for tick in ticks:
+        if not stretches or not stretches[-1].takes(tick):
+            if stretches and tick.event is before:
+                raise Uneven
+            stretches.append(_Stretch(tick))
+            stretches[-1].takes(tick)
+        before = tick.event
+    return [Change(stretch.event, stretch.units) for stretch in stretches]
+
+
+def places_of(changes: Sequence[Change], events: Sequence[Action]) -> Dict[int, int]:
+    """Before which of the events that are told the number changes, and to what, by their places among these.
+
+    An advance that isn't told is a part of the one that is told before it. Raises Uneven, if two changes are in one.
+    """
+    units = {id(change.event): change.units for change in changes}
+    places: Dict[int, int] = {}
+    told = -1
+    for event in events:
+        told += not isinstance(event, Advance) or event.is_told
+        if id(event) in units:
+            if told in places:
+                raise Uneven
+            places[told] = units[id(event)]
+    return places
