@@ -26,7 +26,7 @@ pub returns-clause-lists : goal.returns-clause-lists
 returns-clause-lists c = fired_lists_stay
 
 pub returns-clause-timeouts : goal.returns-clause-timeouts
-returns-clause-timeouts c = λ d delay w. refl
+returns-clause-timeouts c = λ d delay body w. refl
 
 pub returns-clause-loops : goal.returns-clause-loops
 returns-clause-loops c = turns_follow
