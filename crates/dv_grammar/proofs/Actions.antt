@@ -26,7 +26,8 @@ use Rattle.dv_forms.specs.declared.words.StatementWord.{StatementWord}
 use Rattle.dv_forms.specs.Words.{action_word, action_words, statement_word, statement_words}
 use Rattle.dv_grammar.specs.Grammar.{body_keys, IsEnd, IsWork, IsListFlag, IsGatherFlag, IsBound, IsAction, deferred}
 use Rattle.dv_grammar.specs.Grammar.{deferred_with, callback, errback, add_callback, add_errback, add_both}
-use Rattle.dv_grammar.specs.Grammar.{add_callbacks, chain, pause, unpause, cancel, add_timeout, note, list, gather}
+use Rattle.dv_grammar.specs.Grammar.{add_callbacks, chain, pause, unpause, cancel, add_timeout, add_timeout_with, note}
+use Rattle.dv_grammar.specs.Grammar.{list, gather}
 use Rattle.dv_grammar.specs.Grammar.{maybe, lock, semaphore, acquire, release, run_with, queue, put, get, later}
 use Rattle.dv_grammar.specs.Grammar.{cancel_call, reset_call, delay_call, loop, stop_loop, cooperate, when_done}
 use Rattle.dv_grammar.specs.Grammar.{pause_task, stop_task}
@@ -39,10 +40,12 @@ use Rattle.dv_grammar.specs.Grammar.{AreStatements, no_statements, more_statemen
 use Rattle.dv_grammar.specs.Grammar.{is_delay, is_interval, action_step, body_step, statement_step, times_action}
 use Rattle.dv_grammar.specs.Grammar.{times_body, times_statement}
 use Rattle.dv_forms.specs.Parts.{value_at, each, list_at, text_at, number_at, bound_at, class_at, list_flag_at}
-use Rattle.dv_forms.specs.Parts.{gather_flag_at, call_at, none, first, if_any, one, one_or_two, two, three, four, five}
+use Rattle.dv_forms.specs.Parts.{gather_flag_at, call_at, none, first, if_any, one, one_or_two, two_or_three, two, three}
+use Rattle.dv_forms.specs.Parts.{four, five}
 use Rattle.dv_forms.specs.Parts.{sole, pair, triple, one_of, two_of, three_of, fields_at, field, if_there}
 use Rattle.dv_grammar.specs.Shape.{end_at, leave_at, work_at, Readers, action_with, action_by, action_of}
-use Rattle.dv_grammar.specs.Shape.{new_deferred_of, thread_in_of, loop_of, by_name_or, keyed_body_by, body_by}
+use Rattle.dv_grammar.specs.Shape.{new_deferred_of, timeout_of, thread_in_of, loop_of, by_name_or, keyed_body_by}
+use Rattle.dv_grammar.specs.Shape.{body_by}
 use Rattle.dv_grammar.specs.Shape.{statement_by, statement_of, readers}
 use Rattle.dv_grammar.specs.Shape.{body_at, action_at, statement_at}
 use Rattle.dv_grammar.proofs.Steps.{some_injective, bind, mapped, picked}

@@ -14,8 +14,8 @@ decreases-action::actions l = 16 * l.levels + 6
 abbrev pub decreases-action::add_callbacks : goal.decreases-action::add_callbacks
 decreases-action::add_callbacks l = 16 * l.levels + 3
 
-abbrev pub decreases-action::canceller : goal.decreases-action::canceller
-decreases-action::canceller l = 16 * l.levels + 1
+abbrev pub decreases-action::add_timeout : goal.decreases-action::add_timeout
+decreases-action::add_timeout l = 16 * l.levels + 3
 
 abbrev pub decreases-action::cooperate : goal.decreases-action::cooperate
 decreases-action::cooperate l = 16 * l.levels + 3
@@ -34,6 +34,9 @@ decreases-action::loop_of l = 16 * l.levels + 3
 
 abbrev pub decreases-action::with_body : goal.decreases-action::with_body
 decreases-action::with_body l = 16 * l.levels + 3
+
+abbrev pub decreases-action::maybe_body : goal.decreases-action::maybe_body
+decreases-action::maybe_body l = 16 * l.levels + 1
 
 abbrev pub decreases-action::run_with : goal.decreases-action::run_with
 decreases-action::run_with l = 16 * l.levels + 3
