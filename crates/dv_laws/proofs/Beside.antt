@@ -35,10 +35,12 @@ pub data Tasks (e : Entry) (c : Cooperator) : Cooperator → Type 0 where
   TaskAwaited : (t d : ℕ) (x : Task) → slice_get c.tasks t ≡ Some x → tasking_of e ≡ Untasked
       → Tasks e c (with_waiting t d x c)
 
--- locks stay, or one is made, or a token of one is asked for or released, which is logged
+-- locks stay, or one or a semaphore is made, or a token of one is asked for or released, which is logged
 pub data Locks (e : Entry) (old : List Semaphore) : List Semaphore → Type 0 where
   LocksRest : (new : List Semaphore) → holding_of e ≡ Unheld → new ≡ old → Locks e old new
-  LockMade : (name : List ℕ) (tokens : ℕ) → holding_of e ≡ Unheld → Locks e old (old ++ new_semaphore name tokens ∷ [])
+  LockMade : (name : List ℕ) → e ≡ entry.Lock name → Locks e old (old ++ new_semaphore name 1 ∷ [])
+  SemaphoreMade : (name : List ℕ) (tokens : ℕ) → e ≡ entry.Semaphore name tokens
+      → Locks e old (old ++ new_semaphore name tokens ∷ [])
   LockAsked : (l d : ℕ) (s : Semaphore) → slice_get old l ≡ Some s → e ≡ entry.Acquire s.name d
       → Locks e old (slice_set old l (asked d s))
   LockReleased : (l : ℕ) (s : Semaphore) → slice_get old l ≡ Some s → is_unheld s ≡ false → e ≡ entry.Release s.name

@@ -2,11 +2,11 @@
 -- keeps.
 use Rattle.std.proofs.Common.{ℕ, ◌+◌, ◌≡◌, Bool, true, false, if◌then◌else◌, List, [], ◌∷◌, ◌++◌, Option, None, Some}
 use Rattle.std.proofs.Common.{length, nat_eq, slice_get, refl, arith}
-use Rattle.dv_value.specs.declared.value.Value.{Value}
+use Rattle.dv_value.specs.declared.value.Value.{Value, Text}
 use Rattle.dv_journal.specs.declared.entry.Entry.{Entry}
 use Rattle.dv_journal.specs.declared.entry.Entry.TheVariants as entry
 use Rattle.dv_prims.specs.DeferredList.{Gather, child_fired}
-use Rattle.dv_prims.specs.Tokens.{Semaphore, is_unheld}
+use Rattle.dv_prims.specs.Tokens.{Semaphore, has_free, is_unheld, first_waiting}
 use Rattle.dv_clock.specs.Clock.{Upcoming, next_call, new_due}
 use Rattle.dv_clock.specs.Due.{entry_when_due}
 use Rattle.dv_clock.specs.Turns.{turn_of}
@@ -19,15 +19,12 @@ use Rattle.dv_clock.specs.declared.due.Due.{Due}
 use Rattle.dv_clock.specs.declared.due.Due.TheVariants as what
 use Rattle.dv_script.specs.declared.body.Body as body_of
 use Rattle.dv_journal.specs.Told.{change_of, Aside}
-use Rattle.dv_world.specs.World.{World, step, append, fire, cancel, pause, unpause, make, aside, lock_told}
-use Rattle.dv_world.specs.World.{release_found, forget}
-use Rattle.dv_world.specs.World.{arrange, child_fired_found, child_fired_in, take_due_found, waiting_cancelled}
-use Rattle.dv_world.specs.World.{state_cancelled}
+use Rattle.dv_world.specs.World.{World, step, append, fire, cancel, pause, unpause, make, aside, arrange}
+use Rattle.dv_world.specs.World.{child_fired_found, child_fired_in, take_due_found, waiting_cancelled, state_cancelled}
 use Rattle.dv_world.specs.World.{call_cancelled, cancel_call, waiting_reset, state_reset, call_reset, reset_call}
-use Rattle.dv_world.specs.World.{start_timer}
-use Rattle.dv_world.specs.World.{turn_scheduled, loop_stopped, end_loop}
-use Rattle.dv_world.specs.World.{task_told, task_ended, tick_dropped, keep_tick, step_taken, turn_taken}
-use Rattle.dv_world.specs.World.{resume_inline, end_await, submit, deliver_later}
+use Rattle.dv_world.specs.World.{start_timer, turn_scheduled, loop_stopped, end_loop, task_told, task_ended}
+use Rattle.dv_world.specs.World.{tick_dropped, keep_tick, step_taken, turn_taken, resume_inline, end_await, submit}
+use Rattle.dv_world.specs.World.{deliver_later}
 use Rattle.dv_script.specs.declared.work.Work.{Work}
 use Rattle.dv_objects.specs.Cooperator.{Cooperator, with_step, result_of, unended, wants_tick, idle_tick}
 use Rattle.dv_objects.specs.Objects.{Objects, with_list, with_ended_call, with_moved_call, cooperating}
@@ -48,9 +45,8 @@ use Rattle.dv_objects.specs.declared.reached.Reached.TheVariants as reached
 use Rattle.dv_laws.specs.Loops.{Unlooped, looping_of}
 use Rattle.dv_laws.specs.Stored.{Unqueued, queueing_of}
 use Rattle.dv_laws.specs.Tasks.{Untasked, tasking_of}
-use Rattle.dv_laws.specs.Tokens.{Unheld, holding_of}
-use Rattle.dv_objects.specs.Objects.{naming, with_lock}
-use Rattle.dv_prims.specs.Tokens.{released}
+use Rattle.dv_laws.specs.Tokens.{Holding, Unheld, MakesTokens, AsksOf, ReleasesOf, holding_of}
+use Rattle.dv_objects.specs.Objects.{naming}
 use Rattle.dv_laws.proofs.Beside as beside
 use Rattle.dv_laws.proofs.Beside.{Tasks, Locks, Queues, Loops, Beside, Arranged, resting, arranging}
 use Rattle.dv_laws.proofs.Clocks.{IsPlain, Clocks, Leaves, Adds, Runs, Cancels, Moves, Drops, Arranges, Stays, Loses}
@@ -58,10 +54,8 @@ use Rattle.std.specs.Prelude.{min}
 use Rattle.dv_clock.specs.declared.limits.TheConstants.{MOST_DELAY}
 use Rattle.dv_objects.specs.Objects.{with_new_call, with_timer, with_delivery, with_tick, without_tick}
 use Rattle.dv_objects.specs.Looping.{with_turn}
-use Rattle.dv_prims.specs.Tokens.{asked, forgotten}
 use Rattle.dv_clock.specs.Clock.{Clock}
 use Rattle.dv_objects.specs.Looping.{turn_dropped, with_stopped, with_ended}
-use Rattle.dv_objects.specs.Objects.{lock_changed}
 use Rattle.dv_objects.specs.declared.canceller.Canceller.{Canceller}
 use Rattle.dv_world.specs.World.{fire_then_swallow, call_later, schedule_tick, reached_from}
 use Rattle.dv_journal.specs.Journal.{fits, with_entry}
@@ -114,10 +108,25 @@ LeavesQueues (MakesQueue name size) = Unit {0}
 LeavesQueues (PutsInto name) = ⊥
 LeavesQueues (GetsFrom name) = ⊥
 
--- a cancel reaches nobody that waits for a value of a queue
-abbrev pub ReachesNoItem : Reached → Type 0
-ReachesNoItem (reached.ForItem d k) = ⊥
-ReachesNoItem r = Unit {0}
+-- no token of a lock is asked for or released
+abbrev pub LeavesTokens : Holding → Type 0
+LeavesTokens Unheld = Unit {0}
+LeavesTokens (MakesTokens lock tokens) = Unit {0}
+LeavesTokens (AsksOf lock) = ⊥
+LeavesTokens (ReleasesOf lock) = ⊥
+
+abbrev pub LeavesLines : Entry → Type 0
+LeavesLines e = LeavesQueues (queueing_of e) × LeavesTokens (holding_of e)
+
+-- queues and locks stay
+abbrev pub LinesStay : Objects → Objects → Type 0
+LinesStay old new = (new.queues ≡ old.queues) × (new.semaphores ≡ old.semaphores)
+
+-- a cancel reaches nobody that waits for a value of a queue, or for a token of a lock
+abbrev pub ReachesNoWaiter : Reached → Type 0
+ReachesNoWaiter (reached.ForItem d k) = ⊥
+ReachesNoWaiter (reached.ForToken d l) = ⊥
+ReachesNoWaiter r = Unit {0}
 
 -- what is kept by the steps that fire, unpause and settle nothing, add no pair, and bind no name but that of a Deferred
 -- that is made
@@ -125,14 +134,14 @@ pub record Quiet (R : World → World → Type 0) : Type 0 where
   pub stays : (w : World) → R w w
   pub joins : (u v w : World) → R u v → R v w → R u w
   pub by_make : (name : Option (List ℕ)) (canceller : Option Canceller) (w : World) → R w (make name canceller w)
-  pub by_cancel : (d : ℕ) (w : World) → ReachesNoItem (cancel d w).0 → R w (cancel d w).1
+  pub by_cancel : (d : ℕ) (w : World) → ReachesNoWaiter (cancel d w).0 → R w (cancel d w).1
   pub by_pause : (d : ℕ) (w : World) → R w (pause d w)
   pub by_aside : (e : Entry) (change : Objects → Objects) (w : World) → change_of e ≡ Aside
-      → LeavesQueues (queueing_of e)
+      → LeavesLines e
       → (Regular w.objects.loops → Clocks e w.objects.clock (change w.objects).clock)
       → (Regular w.objects.loops → Regular (change w.objects).loops) → Beside e w.objects (change w.objects)
       → (change w.objects).names ≡ w.objects.names → R w (aside e change w)
-  pub by_arrange : (change : Objects → Objects) (w : World) → (change w.objects).queues ≡ w.objects.queues
+  pub by_arrange : (change : Objects → Objects) (w : World) → LinesStay w.objects (change w.objects)
       → Arranges w.objects.clock (change w.objects).clock
       → (Regular w.objects.loops → Regular (change w.objects).loops) → Arranged w.objects (change w.objects)
       → (change w.objects).names ≡ w.objects.names → R w (arrange change w)
@@ -148,11 +157,12 @@ pub record WasCancelled (d : ℕ) (w : World) : Type 0 where
   pub last : w.journal.entries ≡ before ++ entry.Cancel of ∷ []
   pub reaches : reached_from of w.records ≡ reached.Fire d
 
--- d waits for a value of the queue k, or may: it is made, and no firing of it is to be swallowed
-pub record IsMade (k d : ℕ) (rs : Records) : Type 0 where
+-- d waits for a value of a queue or for a token of a lock, or may: it is made, with a canceller that takes it out, and
+-- no firing of it is to be swallowed
+pub record IsMade (by : Canceller) (d : ℕ) (rs : Records) : Type 0 where
   pub made : Kind
   pub found : slice_get rs d ≡ Some made
-  pub item : made.canceller ≡ Some (canceller.Item k)
+  pub leaves : made.canceller ≡ Some by
   pub fresh : made.swallows ≡ false
 
 -- whoever got a value is fired with it
@@ -164,17 +174,33 @@ abbrev pub handed_to : ℕ → Option Value → World → World
 handed_to d None w = w
 handed_to d (Some value) w = (fire d value w).1
 
--- and by the steps that bind a name, add a pair, fire and unpause, and those of a queue, each with the firing that
--- follows
+-- who is granted a token: d that asks for one, where one is free
+abbrev pub asking : ℕ → Semaphore → Option ℕ
+asking d s = if has_free s then Some d else None
+
+-- whoever is granted one is fired with the name of the lock
+abbrev pub granted : Option ℕ → List ℕ → World → World
+granted None name w = w
+granted (Some d) name w = (fire d (Text name) w).1
+
+-- and by the steps that bind a name, add a pair, fire and unpause, and those of a queue and of a lock, each with the
+-- firing that follows
 pub record Calm (R : World → World → Type 0) : Type 0 where
   pub quiet : Quiet R
   pub stops : (w : World) → R w (with_stop w)
   pub by_put : (k : ℕ) (value : Value) (w : World)
       → (let a = world.put_into k value w in R w (handed a.0 a.1))
-  pub by_get : (k d : ℕ) (w : World) → (w.stopped ≡ false → IsMade k d w.records)
+  pub by_get : (k d : ℕ) (w : World) → (w.stopped ≡ false → IsMade (canceller.Item k) d w.records)
       → (let a = world.get_from k d w in R w (handed_to d a.0 a.1))
   pub by_withdraw : (of d k : ℕ) (w : World) → (cancel of w).0 ≡ reached.ForItem d k
       → R w (fire d cancelled (world.withdraw k d (cancel of w).1)).1
+  pub by_ask : (l d : ℕ) (s : Semaphore) (w : World) → slice_get w.objects.semaphores l ≡ Some s
+      → (w.stopped ≡ false → IsMade (canceller.Token l) d w.records)
+      → R w (granted (asking d s) s.name (world.ask l d w))
+  pub by_release : (l : ℕ) (s : Semaphore) (w : World) → slice_get w.objects.semaphores l ≡ Some s
+      → is_unheld s ≡ false → R w (granted (first_waiting s) s.name (world.release l w))
+  pub by_forget : (of d l : ℕ) (w : World) → (cancel of w).0 ≡ reached.ForToken d l
+      → R w (fire d cancelled (world.forget l d (cancel of w).1)).1
   pub by_name : (d : ℕ) (name : List ℕ) (w : World) → R w (aside (entry.Name d (Some name)) (naming name d) w)
   pub by_append : (d : ℕ) (pair : Pair) (w : World) → R w (append d pair w)
   pub by_fire : (d : ℕ) (value : Value) (w : World) → R w (fire d value w).1
@@ -190,13 +216,13 @@ same w = record { keeps = λ R l. l.stays w }
 join : (u v w : World) → Quietly u v → Quietly v w → Quietly u w
 join u v w a b = record { keeps = λ R l. l.joins u v w (a.keeps R l) (b.keeps R l) }
 
-pub by_aside : (e : Entry) (change : Objects → Objects) (w : World) → change_of e ≡ Aside → LeavesQueues (queueing_of e)
+pub by_aside : (e : Entry) (change : Objects → Objects) (w : World) → change_of e ≡ Aside → LeavesLines e
     → (Regular w.objects.loops → Clocks e w.objects.clock (change w.objects).clock)
     → (Regular w.objects.loops → Regular (change w.objects).loops) → Beside e w.objects (change w.objects)
     → (change w.objects).names ≡ w.objects.names → Quietly w (aside e change w)
 by_aside e change w a q c r t n = record { keeps = λ R l. l.by_aside e change w a q c r t n }
 
-by_arrange : (change : Objects → Objects) (w : World) → (change w.objects).queues ≡ w.objects.queues
+by_arrange : (change : Objects → Objects) (w : World) → LinesStay w.objects (change w.objects)
     → Arranges w.objects.clock (change w.objects).clock
     → (Regular w.objects.loops → Regular (change w.objects).loops) → Arranged w.objects (change w.objects)
     → (change w.objects).names ≡ w.objects.names → Quietly w (arrange change w)
@@ -224,7 +250,7 @@ task_beside e old new t a b c = record {
   loops = beside.LoopsRest _ c (beside.SameLoops _ refl);
 }
 
-lock_beside : (e : Entry) (old : Objects) (new : Objects) → Locks e old.semaphores new.semaphores
+pub lock_beside : (e : Entry) (old : Objects) (new : Objects) → Locks e old.semaphores new.semaphores
     → tasking_of e ≡ Untasked → queueing_of e ≡ Unqueued → looping_of e ≡ Unlooped → new.cooperator ≡ old.cooperator
     → new.queues ≡ old.queues → new.loops ≡ old.loops → Beside e old new
 lock_beside e old new t a b c p q r = record {
@@ -255,68 +281,10 @@ loop_beside e old new t a b c p q r = record {
   loops = t;
 }
 
-ask_comes : (l d : ℕ) (o : Option Semaphore) (w : World) → slice_get w.objects.semaphores l ≡ o
-    → Quietly w (lock_told l (λ s. entry.Acquire s.name d) (asked d) o w)
-ask_comes l d None w h = same w
-ask_comes l d (Some s) w h =
-    by_aside (entry.Acquire s.name d) _ w refl tt (λ k. Leaves (refl, refl, refl)) (λ k. k)
-    (lock_beside _ _ _ (beside.LockAsked l d s h refl) refl refl refl refl refl refl) refl
-
-released_comes : (b : Bool) (l : ℕ) (s : Semaphore) (w : World) → is_unheld s ≡ b
-    → slice_get w.objects.semaphores l ≡ Some s
-    → Quietly w (if b then w else aside (entry.Release s.name) (with_lock l (released s)) w)
-released_comes true l s w u h = same w
-released_comes false l s w u h =
-    by_aside (entry.Release s.name) _ w refl tt (λ k. Leaves (refl, refl, refl)) (λ k. k)
-    (lock_beside _ _ _ (beside.LockReleased l s h u refl) refl refl refl refl refl refl) refl
-
-release_comes : (l : ℕ) (o : Option Semaphore) (w : World) → slice_get w.objects.semaphores l ≡ o
-    → Quietly w (release_found l o w)
-release_comes l None w h = same w
-release_comes l (Some s) w h = released_comes _ l s w refl h
-
-lock_same : (l : ℕ) (change : Semaphore → Semaphore) (o : Option Semaphore) (objects : Objects)
-    → Arranges objects.clock (lock_changed l change o objects).clock
-lock_same l change None objects = Stays
-lock_same l change (Some s) objects = Stays
-
-lock_loops : (l : ℕ) (change : Semaphore → Semaphore) (o : Option Semaphore) (objects : Objects) → Regular objects.loops
-    → Regular (lock_changed l change o objects).loops
-lock_loops l change None objects k = k
-lock_loops l change (Some s) objects k = k
-
-lock_queues : (l : ℕ) (change : Semaphore → Semaphore) (o : Option Semaphore) (objects : Objects)
-    → (lock_changed l change o objects).queues ≡ objects.queues
-lock_queues l change None objects = refl
-lock_queues l change (Some s) objects = refl
-
-lock_names : (l : ℕ) (change : Semaphore → Semaphore) (o : Option Semaphore) (objects : Objects)
-    → (lock_changed l change o objects).names ≡ objects.names
-lock_names l change None objects = refl
-lock_names l change (Some s) objects = refl
-
-lock_arranged : (l d : ℕ) (o : Option Semaphore) (objects : Objects) → slice_get objects.semaphores l ≡ o
-    → Arranged objects (lock_changed l (forgotten d) o objects)
-lock_arranged l d None objects h = arranging _ _ refl refl refl refl refl
-lock_arranged l d (Some s) objects h = record {
-  tasks = refl;
-  turns = refl;
-  locks = beside.LockForgets l d s h;
-  queues = beside.SameQueues _ refl;
-  loops = beside.SameLoops _ refl;
-}
-
-forget_comes : (l d : ℕ) (w : World) → Quietly w (forget l d w)
-forget_comes l d w =
-    by_arrange _ w (lock_queues l (forgotten d) (slice_get w.objects.semaphores l) w.objects)
-    (lock_same l (forgotten d) (slice_get w.objects.semaphores l) w.objects)
-    (lock_loops l (forgotten d) (slice_get w.objects.semaphores l) w.objects) (lock_arranged l d _ w.objects refl)
-    (lock_names l (forgotten d) (slice_get w.objects.semaphores l) w.objects)
-
 child_fired_comes : (l i : ℕ) (v : Value) (o : Option Gather) (w : World) → Quietly w (child_fired_found l i v o w).1
 child_fired_comes l i v None w = same w
 child_fired_comes l i v (Some g) w =
-    by_arrange (with_list l (child_fired i v g).1) w refl Stays (λ k. k) (arranging _ _ refl refl refl refl refl) refl
+    by_arrange (with_list l (child_fired i v g).1) w (refl, refl) Stays (λ k. k) (arranging _ _ refl refl refl refl refl) refl
 
 child_fired_in_comes : (l i : ℕ) (v : Value) (w : World) → Quietly w (child_fired_in l i v w).1
 unfolding child_fired_in
@@ -328,7 +296,7 @@ scheduled_comes : (l : ℕ) (o : Option LoopingCall) (w : World) → slice_get w
     → Quietly w (turn_scheduled l o w)
 scheduled_comes l None w h = same w
 scheduled_comes l (Some x) w h =
-    by_aside (entry.LaterLoop x.name (next_due x w.objects.clock)) (with_turn l x) w refl tt
+    by_aside (entry.LaterLoop x.name (next_due x w.objects.clock)) (with_turn l x) w refl (tt, tt)
     (λ k. Adds (what.Turn x.name l) (next_due x w.objects.clock) refl (turn_later x w.objects.clock (k.each l x h)))
     (λ k. regular_set l x _ w.objects.loops h refl k)
     (loop_beside _ _ _ (beside.LoopTurns l x _ h refl refl refl refl) refl refl refl refl refl refl) refl
@@ -341,7 +309,7 @@ loop_stopped_comes : (l : ℕ) (o : Option LoopingCall) (w : World) → slice_ge
     → Quietly w (loop_stopped l o w)
 loop_stopped_comes l None w h = same w
 loop_stopped_comes l (Some x) w h =
-    by_aside (entry.Stop x.name) (with_stopped l x) w refl tt
+    by_aside (entry.Stop x.name) (with_stopped l x) w refl (tt, tt)
     (λ k. dropped_same (entry.Stop x.name) x.turn w.objects.clock
     (refl, refl, refl)) (λ k. regular_set l x _ w.objects.loops h refl k)
     (loop_beside _ _ _ (beside.LoopsRest _ refl (beside.LoopSet l x _ h refl refl refl)) refl refl refl refl refl refl)
@@ -352,9 +320,9 @@ ended_same : (l : ℕ) (o : Option LoopingCall) (objects : Objects)
 ended_same l None objects = Stays
 ended_same l (Some x) objects = Stays
 
-ended_queues : (l : ℕ) (o : Option LoopingCall) (objects : Objects) → (with_ended l o objects).queues ≡ objects.queues
-ended_queues l None objects = refl
-ended_queues l (Some x) objects = refl
+ended_lines : (l : ℕ) (o : Option LoopingCall) (objects : Objects) → LinesStay objects (with_ended l o objects)
+ended_lines l None objects = (refl, refl)
+ended_lines l (Some x) objects = (refl, refl)
 
 ended_names : (l : ℕ) (o : Option LoopingCall) (objects : Objects) → (with_ended l o objects).names ≡ objects.names
 ended_names l None objects = refl
@@ -378,13 +346,13 @@ loop_arranged l (Some x) objects h = record {
 
 end_loop_comes : (l : ℕ) (w : World) → Quietly w (end_loop l w)
 end_loop_comes l w =
-    by_arrange _ w (ended_queues l (slice_get w.objects.loops l) w.objects)
+    by_arrange _ w (ended_lines l (slice_get w.objects.loops l) w.objects)
     (ended_same l (slice_get w.objects.loops l) w.objects) (ended_loops l (slice_get w.objects.loops l) w.objects refl)
     (loop_arranged l (slice_get w.objects.loops l) w.objects refl)
     (ended_names l (slice_get w.objects.loops l) w.objects)
 
 told_task_comes : (e : Task → Entry) (change : Task → Cooperator → Cooperator) (o : Option Task) (w : World)
-    → ((x : Task) → change_of (e x) ≡ Aside) → ((x : Task) → LeavesQueues (queueing_of (e x)))
+    → ((x : Task) → change_of (e x) ≡ Aside) → ((x : Task) → LeavesLines (e x))
     → ((x : Task) → IsPlain (e x))
     → ((x : Task) → o ≡ Some x → Beside (e x) w.objects (cooperating (change x) w.objects))
     → Quietly w (task_told e change o w)
@@ -395,12 +363,14 @@ told_task_comes e change (Some x) w a l t k =
 dropped_comes : (o : Option ℕ) (w : World) → Quietly w (tick_dropped o w)
 dropped_comes None w = same w
 dropped_comes (Some number) w =
-    by_arrange (without_tick number) w refl (Loses number) (λ k. k) (arranging _ _ refl refl refl refl refl) refl
+    by_arrange (without_tick number) w (refl, refl) (Loses number) (λ k. k)
+    (arranging _ _ refl refl refl refl refl) refl
 
 later_comes : (w : World) → Quietly w (schedule_tick w)
 later_comes w =
     by_aside (entry.LaterTick (w.objects.clock.time + w.objects.cooperator.delay))
-    (with_tick (w.objects.clock.time + w.objects.cooperator.delay)) w refl tt (λ k. Adds what.Tick _ refl (omega arith))
+    (with_tick (w.objects.clock.time + w.objects.cooperator.delay)) w refl (tt, tt)
+    (λ k. Adds what.Tick _ refl (omega arith))
     (λ k. k) (resting _ _ _ refl refl refl refl refl refl refl refl refl) refl
 
 keep_comes : (w u : World) → Quietly w u → Quietly w (keep_tick u)
@@ -422,7 +392,7 @@ task_ended_comes : (t : ℕ) (end : TaskEnd) (o : Option Task) (w : World)
 task_ended_comes t end None w h = same w
 task_ended_comes t end (Some x) w h =
     let found = unended_is (slice_get w.objects.cooperator.tasks t) x h in
-    by_aside (entry.End x.name (result_of x.name end)) _ w refl tt (λ k. Leaves (refl, refl, refl)) (λ k. k)
+    by_aside (entry.End x.name (result_of x.name end)) _ w refl (tt, tt) (λ k. Leaves (refl, refl, refl)) (λ k. k)
     (task_beside _ _ _ (beside.TaskEnds t end x found.0 found.1 refl) refl refl refl) refl
 
 inlining_comes : (i : ℕ) (v : Value) (w : World) → Quietly w (resume_inline i v w).1
@@ -430,20 +400,20 @@ unfolding resume_inline
 inlining_comes i v w =
     let t = resume_at i v w.objects.inlines in
     first_comes w.stopped (None, w) (t.0, arrange (inlining (λ inlines. t.1)) w) w (same w)
-    (by_arrange _ w refl Stays (λ k. k) (arranging _ _ refl refl refl refl refl) refl)
+    (by_arrange _ w (refl, refl) Stays (λ k. k) (arranging _ _ refl refl refl refl refl) refl)
 
 end_await_comes : (i e : ℕ) (p : Position) (w : World) → Quietly w (end_await i e p w).1
 unfolding end_await
 end_await_comes i e p w =
     let t = end_adding i e p w.objects.inlines in
     first_comes w.stopped (None, w) (t.0, arrange (inlining (λ inlines. t.1)) w) w (same w)
-    (by_arrange _ w refl Stays (λ k. k) (arranging _ _ refl refl refl refl refl) refl)
+    (by_arrange _ w (refl, refl) Stays (λ k. k) (arranging _ _ refl refl refl refl refl) refl)
 
 waiting_comes : (number at : ℕ) (due : Due) (w : World)
     → slice_get w.objects.clock.calls number ≡ Some (record { due = at; state = call_state.Waiting due })
     → Quietly w (waiting_cancelled number due w)
 waiting_comes number at (what.Call name key) w h =
-    by_aside (entry.Uncall name) (with_ended_call number call_state.Cancelled) w refl tt
+    by_aside (entry.Uncall name) (with_ended_call number call_state.Cancelled) w refl (tt, tt)
     (λ k. Cancels number at name key h refl) (λ k. k) (resting _ _ _ refl refl refl refl refl refl refl refl refl) refl
 waiting_comes number at (what.Turn name key) w h = same w
 waiting_comes number at what.Tick w h = same w
@@ -479,7 +449,7 @@ waiting_anew : (number : ℕ) (from : DelayFrom) (delay at : ℕ) (due : Due) (w
 waiting_anew number from delay at (what.Call name key) w h =
     let now = w.objects.clock.time in
     let new = new_due from (min delay MOST_DELAY) at now in
-    by_aside (entry.Reset name new) (with_moved_call number new) w refl tt
+    by_aside (entry.Reset name new) (with_moved_call number new) w refl (tt, tt)
     (λ k. Moves number at new name key h refl (new_later from (min delay MOST_DELAY) at now)) (λ k. k)
     (resting _ _ _ refl refl refl refl refl refl refl refl refl) refl
 waiting_anew number from delay at (what.Turn name key) w h = same w
@@ -510,20 +480,22 @@ call_later_comes : (name : List ℕ) (delay : ℕ) (body : body_of.Body) (w : Wo
     → Quietly w (call_later name delay body w)
 call_later_comes name delay body w =
     let due = w.objects.clock.time + min delay MOST_DELAY in by_aside (entry.LaterCall name due)
-    (with_new_call name due body) w refl tt
+    (with_new_call name due body) w refl (tt, tt)
     (λ k. Adds (what.Call name (length w.objects.bodies)) due refl (omega arith))
     (λ k. k) (resting _ _ _ refl refl refl refl refl refl refl refl refl) refl
 
 timer_comes : (d delay : ℕ) (w : World) → Quietly w (start_timer d delay w)
 timer_comes d delay w =
     let due = w.objects.clock.time + min delay MOST_DELAY in
-    by_aside (entry.LaterTimeout d due) (with_timer d due) w refl tt (λ k. Adds (what.Timeout d) due refl (omega arith))
+    by_aside (entry.LaterTimeout d due) (with_timer d due) w refl (tt, tt)
+    (λ k. Adds (what.Timeout d) due refl (omega arith))
     (λ k. k) (resting _ _ _ refl refl refl refl refl refl refl refl refl) refl
 
 delivery_comes : (job d delay : ℕ) (w : World) → Quietly w (deliver_later job d delay w)
 delivery_comes job d delay w =
     let due = w.objects.clock.time + min delay MOST_DELAY in
-    by_aside (entry.LaterJob job due) (with_delivery job d due) w refl tt (λ k. Adds (what.Delivery job d) due refl
+    by_aside (entry.LaterJob job due) (with_delivery job d due) w refl (tt, tt)
+    (λ k. Adds (what.Delivery job d) due refl
     (omega arith)) (λ k. k) (resting _ _ _ refl refl refl refl refl refl refl refl refl) refl
 
 due_aside : (due : Due) → change_of (entry_when_due due) ≡ Aside
@@ -554,8 +526,8 @@ due_unqueued what.Tick = refl
 due_unqueued (what.Delivery job key) = refl
 due_unqueued (what.Timeout d) = refl
 
-due_leaves : (due : Due) → LeavesQueues (queueing_of (entry_when_due due))
-due_leaves due = subst LeavesQueues (sym (due_unqueued due)) tt
+due_leaves : (due : Due) → LeavesLines (entry_when_due due)
+due_leaves due = (subst LeavesQueues (sym (due_unqueued due)) tt, subst LeavesTokens (sym (due_unheld due)) tt)
 
 due_unlooped : (due : Due) → looping_of (entry_when_due due) ≡ Unlooped
 due_unlooped (what.Call name key) = refl
@@ -575,7 +547,7 @@ upcoming_comes (Some call) w h =
 -- Steps: all but those by which a Deferred is settled and time goes on.
 
 -- a Deferred to which a pair is added is settled at once, and so is one that is fired since it was cancelled, directly
--- after the cancel
+-- after the cancel; whoever is granted a token is fired at once
 abbrev pub IsQuiet : steps.Step → Type 0
 IsQuiet (steps.Put d v) = ⊥
 IsQuiet (steps.PutDeferred d e) = ⊥
@@ -584,13 +556,17 @@ IsQuiet (steps.Name d name) = ⊥
 IsQuiet (steps.Append d pair) = ⊥
 IsQuiet (steps.FireThenSwallow d) = ⊥
 IsQuiet (steps.Withdraw k d) = ⊥
+IsQuiet (steps.Ask l d) = ⊥
+IsQuiet (steps.Release l) = ⊥
+IsQuiet (steps.Forget l d) = ⊥
 IsQuiet step = Unit {0}
 
--- whom the cancel that was logged last has reached; a waiting for a value ends together with its cancel
+-- whom the cancel that was logged last has reached; a waiting for a value or a token ends together with its cancel
 abbrev pub HasReached : Option Reached → World → Type 0
 HasReached None w = Unit {0}
 HasReached (Some (reached.Fire d)) w = WasCancelled d w
 HasReached (Some (reached.ForItem d k)) w = ⊥
+HasReached (Some (reached.ForToken d l)) w = ⊥
 HasReached (Some r) w = Unit {0}
 
 abbrev pub IsCalm : Option Reached → steps.Step → Type 0
@@ -599,6 +575,7 @@ IsCalm o (steps.PutDeferred d e) = ⊥
 IsCalm o (steps.Advance ticks) = ⊥
 IsCalm o (steps.FireThenSwallow d) = o ≡ Some (reached.Fire d)
 IsCalm o (steps.Withdraw k d) = o ≡ Some (reached.ForItem d k)
+IsCalm o (steps.Forget l d) = o ≡ Some (reached.ForToken d l)
 IsCalm o step = Unit {0}
 
 -- a question that changes no queue and isn't answered by whom a cancel reaches
@@ -616,74 +593,77 @@ step_quiet (steps.Append d pair) w m = absurd m
 step_quiet (steps.FireThenSwallow d) w m = absurd m
 step_quiet (steps.Pause d) w m = record { keeps = λ R l. l.by_pause d w }
 step_quiet (steps.Note text) w m =
-    by_aside (entry.Note text) _ w refl tt (λ k. Leaves (refl, refl, refl)) (λ k. k)
+    by_aside (entry.Note text) _ w refl (tt, tt) (λ k. Leaves (refl, refl, refl)) (λ k. k)
     (resting _ _ _ refl refl refl refl refl refl refl refl refl) refl
 step_quiet (steps.TellTurn name) w m =
-    by_aside (entry.Turn name) _ w refl tt (λ k. Leaves (refl, refl, refl)) (λ k. k)
+    by_aside (entry.Turn name) _ w refl (tt, tt) (λ k. Leaves (refl, refl, refl)) (λ k. k)
     (resting _ _ _ refl refl refl refl refl refl refl refl refl) refl
 step_quiet (steps.TellUnhandled failure) w m =
-    by_aside (entry.Unhandled failure) _ w refl tt (λ k. Leaves (refl, refl, refl)) (λ k. k)
+    by_aside (entry.Unhandled failure) _ w refl (tt, tt) (λ k. Leaves (refl, refl, refl)) (λ k. k)
     (resting _ _ _ refl refl refl refl refl refl refl refl refl) refl
 step_quiet (steps.NewLock name) w m =
-    by_aside (entry.Lock name) _ w refl tt (λ k. Leaves (refl, refl, refl)) (λ k. k)
-    (lock_beside _ _ _ (beside.LockMade name 1 refl) refl refl refl refl refl refl) refl
+    by_aside (entry.Lock name) _ w refl (tt, tt) (λ k. Leaves (refl, refl, refl)) (λ k. k)
+    (lock_beside _ _ _ (beside.LockMade name refl) refl refl refl refl refl refl) refl
 step_quiet (steps.NewSemaphore name tokens) w m =
-    by_aside (entry.Semaphore name tokens) _ w refl tt (λ k. Leaves (refl, refl, refl)) (λ k. k)
-    (lock_beside _ _ _ (beside.LockMade name tokens refl) refl refl refl refl refl refl) refl
-step_quiet (steps.Ask l d) w m = ask_comes l d (slice_get w.objects.semaphores l) w refl
-step_quiet (steps.Release l) w m = release_comes l (slice_get w.objects.semaphores l) w refl
-step_quiet (steps.Forget l d) w m = forget_comes l d w
+    by_aside (entry.Semaphore name tokens) _ w refl (tt, tt) (λ k. Leaves (refl, refl, refl)) (λ k. k)
+    (lock_beside _ _ _ (beside.SemaphoreMade name tokens refl) refl refl refl refl refl refl) refl
+step_quiet (steps.Ask l d) w m = absurd m
+step_quiet (steps.Release l) w m = absurd m
+step_quiet (steps.Forget l d) w m = absurd m
 step_quiet (steps.NewQueue name size backlog) w m =
-    by_aside (entry.Queue name size backlog) _ w refl tt (λ k. Leaves (refl, refl, refl)) (λ k. k)
+    by_aside (entry.Queue name size backlog) _ w refl (tt, tt) (λ k. Leaves (refl, refl, refl)) (λ k. k)
     (queue_beside _ _ _ (beside.QueueMade name size backlog refl) refl refl refl refl refl refl) refl
 step_quiet (steps.Withdraw k d) w m = absurd m
 step_quiet (steps.NewList n flags) w m =
-    by_arrange _ w refl Stays (λ k. k) (arranging _ _ refl refl refl refl refl) refl
+    by_arrange _ w (refl, refl) Stays (λ k. k) (arranging _ _ refl refl refl refl refl) refl
 step_quiet (steps.StartTimer d delay) w m = timer_comes d delay w
 step_quiet (steps.EndTimer t) w m =
-    by_arrange (with_ended_call t call_state.Dropped) w refl (Loses t) (λ k. k)
+    by_arrange (with_ended_call t call_state.Dropped) w (refl, refl) (Loses t) (λ k. k)
     (arranging _ _ refl refl refl refl refl) refl
 step_quiet (steps.CallLater name delay body) w m = call_later_comes name delay body w
 step_quiet (steps.NewLoop name d interval body) w m =
-    by_aside (entry.Loop name d) _ w refl tt (λ k. Leaves (refl, refl, refl))
+    by_aside (entry.Loop name d) _ w refl (tt, tt) (λ k. Leaves (refl, refl, refl))
     (λ k. regular_push (new_loop name d w.objects.clock.time interval body) w.objects.loops (new_regular interval) k)
     (loop_beside _ _ _ (beside.LoopStarts name d interval body refl) refl refl refl refl refl refl) refl
 step_quiet (steps.ScheduleTurn l) w m = scheduled_comes l (slice_get w.objects.loops l) w refl
 step_quiet (steps.StopLoop l) w m = loop_stopped_comes l (slice_get w.objects.loops l) w refl
 step_quiet (steps.EndLoop l) w m = end_loop_comes l w
 step_quiet (steps.NewTask name bodies) w m =
-    by_aside (entry.Task name) _ w refl tt (λ k. Leaves (refl, refl, refl)) (λ k. k)
+    by_aside (entry.Task name) _ w refl (tt, tt) (λ k. Leaves (refl, refl, refl)) (λ k. k)
     (task_beside _ _ _ (beside.TaskMade name bodies refl) refl refl refl) refl
 step_quiet (steps.AwaitTask t d) w m =
     told_task_comes (λ x. entry.WhenDone x.name d) _ (slice_get w.objects.cooperator.tasks t) w (λ x. refl)
-    (λ x. tt) (λ x. (refl, refl, refl)) (λ x g. task_beside _ _ _ (beside.TaskAwaited t d x g refl) refl refl refl)
+    (λ x. (tt, tt)) (λ x. (refl, refl, refl))
+    (λ x g. task_beside _ _ _ (beside.TaskAwaited t d x g refl) refl refl refl)
 step_quiet (steps.PauseTask t) w m =
     told_task_comes (λ x. entry.PauseTask x.name) _ (slice_get w.objects.cooperator.tasks t) w (λ x. refl)
-    (λ x. tt) (λ x. (refl, refl, refl)) (λ x g. task_beside _ _ _ (beside.TaskPaused t x g refl) refl refl refl)
+    (λ x. (tt, tt)) (λ x. (refl, refl, refl)) (λ x g. task_beside _ _ _ (beside.TaskPaused t x g refl) refl refl refl)
 step_quiet (steps.ResumeTask t) w m =
     told_task_comes (λ x. entry.ResumeTask x.name) _ (slice_get w.objects.cooperator.tasks t) w (λ x. refl)
-    (λ x. tt) (λ x. (refl, refl, refl)) (λ x g. task_beside _ _ _ (beside.TaskResumed t x g refl) refl refl refl)
+    (λ x. (tt, tt)) (λ x. (refl, refl, refl)) (λ x g. task_beside _ _ _ (beside.TaskResumed t x g refl) refl refl refl)
 step_quiet (steps.HoldTask t e) w m =
     told_task_comes (λ x. entry.Hold x.name e) _ (slice_get w.objects.cooperator.tasks t) w (λ x. refl)
-    (λ x. tt) (λ x. (refl, refl, refl)) (λ x g. task_beside _ _ _ (beside.TaskPaused t x g refl) refl refl refl)
+    (λ x. (tt, tt)) (λ x. (refl, refl, refl)) (λ x g. task_beside _ _ _ (beside.TaskPaused t x g refl) refl refl refl)
 step_quiet (steps.SetUnits units) w m =
-    by_aside (entry.Units units) _ w refl tt (λ k. Leaves (refl, refl, refl)) (λ k. k)
+    by_aside (entry.Units units) _ w refl (tt, tt) (λ k. Leaves (refl, refl, refl)) (λ k. k)
     (resting _ _ _ refl refl refl refl refl refl refl refl refl) refl
 step_quiet steps.KeepTick w m = keep_comes w w (same w)
-step_quiet steps.BeginTick w m = by_arrange _ w refl Stays (λ k. k) (arranging _ _ refl refl refl refl refl) refl
-step_quiet steps.EndTick w m = by_arrange _ w refl Stays (λ k. k) (arranging _ _ refl refl refl refl refl) refl
-step_quiet steps.AddInline w m = by_arrange _ w refl Stays (λ k. k) (arranging _ _ refl refl refl refl refl) refl
+step_quiet steps.BeginTick w m =
+    by_arrange _ w (refl, refl) Stays (λ k. k) (arranging _ _ refl refl refl refl refl) refl
+step_quiet steps.EndTick w m = by_arrange _ w (refl, refl) Stays (λ k. k) (arranging _ _ refl refl refl refl refl) refl
+step_quiet steps.AddInline w m =
+    by_arrange _ w (refl, refl) Stays (λ k. k) (arranging _ _ refl refl refl refl refl) refl
 step_quiet (steps.BeginAwait i e) w m =
-    by_aside (entry.Await i.of e) _ w refl tt (λ k. Leaves (refl, refl, refl)) (λ k. k)
+    by_aside (entry.Await i.of e) _ w refl (tt, tt) (λ k. Leaves (refl, refl, refl)) (λ k. k)
     (resting _ _ _ refl refl refl refl refl refl refl refl refl) refl
 step_quiet (steps.Submit d pool work) w m = record { keeps = λ R l. l.by_submit d pool work w }
 step_quiet (steps.DeliverLater job d delay) w m = delivery_comes job d delay w
 step_quiet (steps.Advance ticks) w m = absurd m
 step_quiet steps.TellDrain w m =
-    by_aside entry.Drain _ w refl tt (λ k. Leaves (refl, refl, refl)) (λ k. k)
+    by_aside entry.Drain _ w refl (tt, tt) (λ k. Leaves (refl, refl, refl)) (λ k. k)
     (resting _ _ _ refl refl refl refl refl refl refl refl refl) refl
 step_quiet (steps.TellPost caller index) w m =
-    by_aside (entry.Post caller index) _ w refl tt (λ k. Leaves (refl, refl, refl)) (λ k. k)
+    by_aside (entry.Post caller index) _ w refl (tt, tt) (λ k. Leaves (refl, refl, refl)) (λ k. k)
     (resting _ _ _ refl refl refl refl refl refl refl refl refl) refl
 step_quiet (steps.Put d v) w m = absurd m
 step_quiet (steps.PutDeferred d e) w m = absurd m
@@ -692,7 +672,7 @@ step_taken_comes : (t : ℕ) (o : Option Task) (w : World) → turn_of w.objects
     → slice_get w.objects.cooperator.tasks t ≡ o → Quietly w (step_taken t o w).1
 step_taken_comes t None w h g = same w
 step_taken_comes t (Some x) w h g =
-    by_aside (entry.Step x.name) (cooperating (with_step t x)) w refl tt (λ k. Leaves (refl, refl, refl)) (λ k. k)
+    by_aside (entry.Step x.name) (cooperating (with_step t x)) w refl (tt, tt) (λ k. Leaves (refl, refl, refl)) (λ k. k)
     (task_beside _ _ _ (beside.TaskSteps t x h g refl) refl refl refl) refl
 
 turn_comes : (o : Option ℕ) (w : World) → turn_of w.objects.cooperator.turns ≡ o → Quietly w (turn_taken o w).1
@@ -701,7 +681,7 @@ turn_comes (Some t) w h = step_taken_comes t (slice_get w.objects.cooperator.tas
 
 pub question_quiet : (question : Question) (w : World) → AsksQuietly question → Quietly w (steps.asked question w).1
 question_quiet (steps.BeginBody declared) w m =
-    by_aside (entry.Body declared.name) _ w refl tt (λ k. Leaves (refl, refl, refl)) (λ k. k)
+    by_aside (entry.Body declared.name) _ w refl (tt, tt) (λ k. Leaves (refl, refl, refl)) (λ k. k)
     (resting _ _ _ refl refl refl refl refl refl refl refl refl) refl
 question_quiet (steps.Cancel d) w m = absurd m
 question_quiet (steps.PutInto k v) w m = absurd m
@@ -724,24 +704,6 @@ quietly w u c = record { keeps = λ R l. c.keeps R l.quiet }
 pub join_calm : (u v w : World) → Calmly u v → Calmly v w → Calmly u w
 join_calm u v w a b = record { keeps = λ R l. l.quiet.joins u v w (a.keeps R l) (b.keeps R l) }
 
-by_swallows : (o : Option Reached) (d : ℕ) (w : World) → HasReached o w → o ≡ Some (reached.Fire d)
-    → Calmly w (fire_then_swallow d w)
-by_swallows o d w h e = record { keeps = λ R l. l.by_fire_then_swallow d w (subst (λ x. HasReached x w) e h) }
-
-no_withdrawal : (o : Option Reached) (k d : ℕ) (w : World) → HasReached o w → o ≡ Some (reached.ForItem d k) → ⊥
-no_withdrawal o k d w h e = subst (λ x. HasReached x w) e h
-
-pub step_calm : (step : steps.Step) (o : Option Reached) (w : World) → HasReached o w → IsCalm o step
-    → Calmly w (stepped step w)
-step_calm (steps.Put d v) o w h m = absurd m
-step_calm (steps.PutDeferred d e) o w h m = absurd m
-step_calm (steps.Advance ticks) o w h m = absurd m
-step_calm (steps.FireThenSwallow d) o w h m = by_swallows o d w h m
-step_calm (steps.Withdraw k d) o w h m = absurd (no_withdrawal o k d w h m)
-step_calm (steps.Name d name) o w h m = record { keeps = λ R l. l.by_name d name w }
-step_calm (steps.Append d pair) o w h m = record { keeps = λ R l. l.by_append d pair w }
-step_calm step o w h m = quietly w (stepped step w) (step_quiet step w tt)
-
 -- whom a question tells that a cancel reaches
 abbrev pub reached_by : (question : Question) → Reply question → Option Reached
 reached_by (steps.BeginBody declared) r = None
@@ -758,12 +720,12 @@ reached_by (steps.EndAwait i e p) r = None
 reached_by steps.TakeDue r = None
 reached_by (steps.Moves d) r = None
 
-whom_reached : (d : ℕ) (r : Reached) (w : World) → reached_from d w.records ≡ r → ReachesNoItem r
+whom_reached : (d : ℕ) (r : Reached) (w : World) → reached_from d w.records ≡ r → ReachesNoWaiter r
     → HasReached (Some r) (record w { journal = with_entry w.journal (entry.Cancel d) })
 whom_reached d reached.Nothing w e m = tt
 whom_reached d (reached.Fire c) w e m = record { of = d; before = w.journal.entries; last = refl; reaches = e }
 whom_reached d (reached.Run c body) w e m = tt
-whom_reached d (reached.ForToken c l) w e m = tt
+whom_reached d (reached.ForToken c l) w e m = absurd m
 whom_reached d (reached.ForItem c k) w e m = absurd m
 whom_reached d (reached.Children children) w e m = tt
 whom_reached d (reached.Inline i) w e m = tt
@@ -771,16 +733,16 @@ whom_reached d (reached.Inline i) w e m = tt
 told_reaches : (b : Bool) (d : ℕ) (w : World) → (let a = cond {A = Reached × World} b (
   reached_from d w.records,
   record w { journal = with_entry w.journal (entry.Cancel d) },
-) (reached.Nothing, record w { stopped = true }) in ReachesNoItem a.0 → HasReached (Some a.0) a.1)
+) (reached.Nothing, record w { stopped = true }) in ReachesNoWaiter a.0 → HasReached (Some a.0) a.1)
 told_reaches true d w m = whom_reached d (reached_from d w.records) w refl m
 told_reaches false d w m = tt
 
-unless_reaches : (b : Bool) (w : World) (p : Reached × World) → (ReachesNoItem p.0 → HasReached (Some p.0) p.1)
-    → (let a = cond {A = Reached × World} b (reached.Nothing, w) p in ReachesNoItem a.0 → HasReached (Some a.0) a.1)
+unless_reaches : (b : Bool) (w : World) (p : Reached × World) → (ReachesNoWaiter p.0 → HasReached (Some p.0) p.1)
+    → (let a = cond {A = Reached × World} b (reached.Nothing, w) p in ReachesNoWaiter a.0 → HasReached (Some a.0) a.1)
 unless_reaches true w p h m = tt
 unless_reaches false w p h m = h m
 
-pub cancel_reaches : (d : ℕ) (w : World) → ReachesNoItem (cancel d w).0
+pub cancel_reaches : (d : ℕ) (w : World) → ReachesNoWaiter (cancel d w).0
     → HasReached (Some (cancel d w).0) (cancel d w).1
 unfolding cancel
 cancel_reaches d w = unless_reaches w.stopped w _ (told_reaches (fits w.journal (entry.Cancel d)) d w)

@@ -30,6 +30,9 @@ pub mod LoopsLemmas
 pub mod ServedLines
 pub mod ServedWaiters
 pub mod ServedLemmas
+pub mod ServedChanges
 pub mod ServedSteps
+pub mod GrantedSteps
+pub mod GrantedLemmas
 pub mod ServedCancels
 pub mod ServedRuns

@@ -10,6 +10,7 @@ use Rattle.dv_journal.specs.declared.entry.Entry.TheVariants as entry
 use Rattle.dv_journal.specs.declared.error.Stop.{Stop}
 use Rattle.dv_journal.specs.declared.error.Stop.TheVariants as stop
 use Rattle.dv_prims.specs.Queue.{Queue, withdrawn}
+use Rattle.dv_prims.specs.Tokens.{Semaphore, forgotten}
 use Rattle.dv_clock.specs.declared.call.Call.{Call}
 use Rattle.dv_clock.specs.declared.call.CallState.{CallState}
 use Rattle.dv_clock.specs.declared.call.CallState.TheVariants as call_state
@@ -22,7 +23,7 @@ use Rattle.dv_frames.specs.Turn.{Turned, settle_next}
 use Rattle.dv_frames.specs.declared.frame.Frame.{Frame}
 use Rattle.dv_frames.specs.declared.frame.Frame.TheVariants as frame
 use Rattle.dv_objects.specs.Names.{Names, number_of, with_name}
-use Rattle.dv_objects.specs.Objects.{Objects, naming, naming_where, queue_changed, with_time}
+use Rattle.dv_objects.specs.Objects.{Objects, naming, naming_where, queue_changed, lock_changed, with_time}
 use Rattle.dv_objects.specs.Pair.{Pair}
 use Rattle.dv_objects.specs.Reached.{reached_unfired}
 use Rattle.dv_objects.specs.Refusals.{cancelled}
@@ -61,6 +62,7 @@ use Rattle.dv_laws.proofs.Stays.{arrange_stays, submit_stays}
 use Rattle.dv_laws.proofs.Steps.{telling_in, put_cases, put_deferred_cases, append_cases, pause_cases, make_cases}
 use Rattle.dv_laws.proofs.Steps.{aside_cases, arrange_cases, submit_cases, cancel_cases, unpause_cases, fire_cases}
 use Rattle.dv_laws.proofs.Steps.{step_cases, unless, unless_and, put_into_cases, get_from_cases}
+use Rattle.dv_laws.proofs.Steps.{ask_cases, release_cases}
 
 -- 1. What is made stays so.
 
@@ -284,6 +286,17 @@ withdraw_names k d w =
     arrange_cases w (Same w) refl refl (λ objects. queue_changed k (withdrawn d) (slice_get objects.queues k) objects)
     (queue_names k (withdrawn d) (slice_get w.objects.queues k) w.objects)
 
+lock_names : (l : ℕ) (change : Semaphore → Semaphore) (o : Option Semaphore) (objects : Objects)
+    → (lock_changed l change o objects).names ≡ objects.names
+lock_names l change None objects = refl
+lock_names l change (Some s) objects = refl
+
+forget_names : (l d : ℕ) (w : World) → Same w (world.forget l d w)
+forget_names l d w =
+    arrange_cases w (Same w) refl refl
+    (λ objects. lock_changed l (forgotten d) (slice_get objects.semaphores l) objects)
+    (lock_names l (forgotten d) (slice_get w.objects.semaphores l) w.objects)
+
 -- a step binds a name to a Deferred that is made, unless the run has stopped
 abbrev pub Made : ℕ → World → Type 0
 Made d w = w.stopped ≡ false → is_there d w.records ≡ 1
@@ -312,6 +325,14 @@ step_bound (steps.FireThenSwallow d) w m b =
     bound_by w (fire_then_swallow d w) (grows w _ (step_comes (steps.FireThenSwallow d) w)) (swallows_names d w) b
 step_bound (steps.Withdraw k d) w m b =
     bound_by w (withdraw k d w) (grows w _ (step_comes (steps.Withdraw k d) w)) (withdraw_names k d w) b
+step_bound (steps.Ask l d) w m b =
+    bound_by w (world.ask l d w) (grows w _ (step_comes (steps.Ask l d) w))
+    (ask_cases w (Same w) refl refl l d (λ s x g. refl)) b
+step_bound (steps.Release l) w m b =
+    bound_by w (world.release l w) (grows w _ (step_comes (steps.Release l) w))
+    (release_cases w (Same w) refl refl l (λ s x g u. refl)) b
+step_bound (steps.Forget l d) w m b =
+    bound_by w (world.forget l d w) (grows w _ (step_comes (steps.Forget l d) w)) (forget_names l d w) b
 step_bound (steps.Advance ticks) w m b =
     bound_by w (world.advance ticks w) (grows w _ (step_comes (steps.Advance ticks) w))
     (aside_cases w (Same w) refl refl (entry.Advance _) (with_time _) (λ x. refl)) b

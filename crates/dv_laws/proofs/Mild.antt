@@ -2,8 +2,9 @@
 -- of a rule.
 use Rattle.std.proofs.Common.{ℕ, ◌+◌, ◌≡◌, Bool, true, false, if◌then◌else◌, List, [], ◌∷◌, ◌++◌, Option, None, Some}
 use Rattle.std.proofs.Common.{length, slice_get, refl}
-use Rattle.dv_value.specs.declared.value.Value.{Value}
+use Rattle.dv_value.specs.declared.value.Value.{Value, Text}
 use Rattle.dv_journal.specs.declared.entry.Entry.TheVariants as entry
+use Rattle.dv_prims.specs.Tokens.{Semaphore, is_unheld, first_waiting}
 use Rattle.dv_prims.specs.declared.gather.Flags.{Flags}
 use Rattle.dv_script.specs.declared.action.Action.{Action, out-Action}
 use Rattle.dv_script.specs.declared.action.Action.TheOpen.{Action-F}
@@ -62,9 +63,11 @@ use Rattle.dv_journal.specs.declared.error.Stop.{Stop}
 use Rattle.dv_journal.specs.declared.error.Stop.TheVariants as stop
 use Rattle.dv_store.specs.Record.{new_record}
 use Rattle.dv_objects.specs.Refusals.{cancelled}
+use Rattle.dv_objects.specs.declared.canceller.Canceller.{Canceller}
 use Rattle.dv_objects.specs.declared.canceller.Canceller.TheVariants as canceller
-use Rattle.dv_laws.proofs.Calm.{ReachesNoItem, handed, handed_to, same, by_aside, HasReached, IsCalm}
-use Rattle.dv_laws.proofs.Calm.{question_quiet, quietly, join_calm, step_calm, reached_by, cancel_reaches, IsMade}
+use Rattle.dv_laws.proofs.Calm.{ReachesNoWaiter, handed, handed_to, asking, granted, same, by_aside, HasReached}
+use Rattle.dv_laws.proofs.Calm.{IsCalm, step_quiet, question_quiet, quietly, join_calm, reached_by, cancel_reaches}
+use Rattle.dv_laws.proofs.Calm.{IsMade}
 use Rattle.dv_laws.proofs.Calm.{Calmly}
 
 -- 1. What a rule leaves.
@@ -146,30 +149,27 @@ IsFiring d v (Fires e u) = (e ≡ d) × (u ≡ v)
 IsFiring d v (Unpauses e) = ⊥
 IsFiring d v (Over rule frames) = ⊥
 
--- a step takes d out of the line of the queue k
-abbrev pub IsWithdrawal : ℕ → ℕ → steps.Step → Type 0
-IsWithdrawal d k (steps.Withdraw j e) = (j ≡ k) × (e ≡ d)
-IsWithdrawal d k step = ⊥
+-- a rule takes d out of where it waits, by this step, and fires it with CancelledError
+abbrev pub IsLeaving : steps.Step → ℕ → Rule → Type 0
+IsLeaving step d (Ends p) = ⊥
+IsLeaving step d (By rule) = ⊥
+IsLeaving step d (If b one other) = ⊥
+IsLeaving step d (Finds {A} o none some) = ⊥
+IsLeaving step d (Then other rule) = (other ≡ step) × IsFiring d cancelled rule
+IsLeaving step d (Asks question rule) = ⊥
+IsLeaving step d (Fires e u) = ⊥
+IsLeaving step d (Unpauses e) = ⊥
+IsLeaving step d (Over rule frames) = ⊥
 
--- a rule does so, and fires d with CancelledError
-abbrev pub IsWithdrawing : ℕ → ℕ → Rule → Type 0
-IsWithdrawing d k (Ends p) = ⊥
-IsWithdrawing d k (By rule) = ⊥
-IsWithdrawing d k (If b one other) = ⊥
-IsWithdrawing d k (Finds {A} o none some) = ⊥
-IsWithdrawing d k (Then step rule) = IsWithdrawal d k step × IsFiring d cancelled rule
-IsWithdrawing d k (Asks question rule) = ⊥
-IsWithdrawing d k (Fires e u) = ⊥
-IsWithdrawing d k (Unpauses e) = ⊥
-IsWithdrawing d k (Over rule frames) = ⊥
-
--- who is answered to have got a value is fired with it, and who is cancelled while waiting for one waits no longer; one
--- that asks a queue is made
+-- who is answered to have got a value is fired with it, and who is cancelled while waiting for one or for a token waits
+-- no longer; one that asks a queue is made
 abbrev pub AsksCalmly : World → (question : Question) → (Reply question → Rule) → Type 0
-AsksCalmly w (steps.Cancel of) rule = (d k : ℕ) → IsWithdrawing d k (rule (reached.ForItem d k))
+AsksCalmly w (steps.Cancel of) rule =
+    ((d k : ℕ) → IsLeaving (steps.Withdraw k d) d (rule (reached.ForItem d k)))
+    × ((d l : ℕ) → IsLeaving (steps.Forget l d) d (rule (reached.ForToken d l)))
 AsksCalmly w (steps.PutInto k v) rule = (who : ℕ × Value) → IsFiring who.0 who.1 (rule (Some who))
 AsksCalmly w (steps.GetFrom k d) rule =
-    (w.stopped ≡ false → IsMade k d w.records) × ((v : Value) → IsFiring d v (rule (Some v)))
+    (w.stopped ≡ false → IsMade (canceller.Item k) d w.records) × ((v : Value) → IsFiring d v (rule (Some v)))
 AsksCalmly w (steps.ChildFired l i v) rule = Unit {0}
 AsksCalmly w (steps.CancelCall number) rule = Unit {0}
 AsksCalmly w (steps.ResetCall number from delay) rule = Unit {0}
@@ -181,19 +181,30 @@ AsksCalmly w (steps.EndAwait i e p) rule = Unit {0}
 AsksCalmly w steps.TakeDue rule = Unit {0}
 AsksCalmly w (steps.Moves d) rule = ⊥
 
--- so it does after a pair was added to d, and after d was fired since it was cancelled
-abbrev pub Follows : steps.Step → Rule → Type 0
-Follows (steps.Append d pair) rule = CallsToSettle d rule
-Follows (steps.FireThenSwallow d) rule = CallsToSettle d rule
-Follows step rule = Unit {0}
+-- who is granted a token of the lock s by a step is fired with the name of the lock
+abbrev pub IsGranting : Option ℕ → Semaphore → Rule → Type 0
+IsGranting who s rule = (e : ℕ) → who ≡ Some e → IsFiring e (Text s.name) rule
+
+-- after a pair was added to d, and after d was fired since it was cancelled, it calls for it that d is settled; after a
+-- lock was asked by one that is made, or a token of it released, it goes by the lock that was found before
+abbrev pub Follows : World → steps.Step → Rule → Type 0
+Follows w (steps.Append d pair) rule = CallsToSettle d rule
+Follows w (steps.FireThenSwallow d) rule = CallsToSettle d rule
+Follows w (steps.Ask l d) rule =
+    (s : Semaphore) × (slice_get w.objects.semaphores l ≡ Some s)
+    × (w.stopped ≡ false → IsMade (canceller.Token l) d w.records) × IsGranting (asking d s) s rule
+Follows w (steps.Release l) rule =
+    (s : Semaphore) × (slice_get w.objects.semaphores l ≡ Some s) × (is_unheld s ≡ false)
+    × IsGranting (first_waiting s) s rule
+Follows w step rule = Unit {0}
 
 -- a rule, begun in a world, takes such steps alone, each with what follows it, and leaves nothing to be put in place
 abbrev pub Mildly : Option Reached → World → Rule → Type 0
 Mildly o w (Ends p) = Unit {0}
 Mildly o w (By rule) = Mildly o w (rule w)
-Mildly o w (If b one other) = Mildly o w one × Mildly o w other
-Mildly o w (Finds {A} x none some) = Mildly o w none × ((a : A) → Mildly o w (some a))
-Mildly o w (Then step rule) = IsCalm o step × Follows step rule × Mildly None (stepped step w) rule
+Mildly o w (If b one other) = (b ≡ true → Mildly o w one) × (b ≡ false → Mildly o w other)
+Mildly o w (Finds {A} x none some) = Mildly o w none × ((a : A) → x ≡ Some a → Mildly o w (some a))
+Mildly o w (Then step rule) = IsCalm o step × Follows w step rule × Mildly None (stepped step w) rule
 Mildly o w (Asks question rule) =
     AsksCalmly w question rule
     × ((a : Reply question) → Mildly (reached_by question a) (steps.asked question w).1 (rule a))
@@ -222,45 +233,43 @@ firing_runs d v (Fires e u) w m =
 firing_runs d v (Unpauses e) w m = absurd m
 firing_runs d v (Over rule frames) w m = absurd m
 
-withdrawal_steps : (d k : ℕ) (step : steps.Step) (w : World) → IsWithdrawal d k step
-    → stepped step w ≡ world.withdraw k d w
-withdrawal_steps d k (steps.Withdraw j e) w m =
-    ap (λ x. world.withdraw x e w) m.0 ∙ ap (λ x. world.withdraw k x w) m.1
-withdrawal_steps d k step w m = absurd m
-
-withdrawing_runs : (d k : ℕ) (rule : Rule) (w : World) → IsWithdrawing d k rule
-    → (run rule w).2 ≡ (world.fire d cancelled (world.withdraw k d w)).1
-withdrawing_runs d k (Ends p) w m = absurd m
-withdrawing_runs d k (By rule) w m = absurd m
-withdrawing_runs d k (If b one other) w m = absurd m
-withdrawing_runs d k (Finds o none some) w m = absurd m
-withdrawing_runs d k (Then step rule) w m =
-    firing_runs d cancelled rule (stepped step w) m.1
-    ∙ ap (λ u. (world.fire d cancelled u).1) (withdrawal_steps d k step w m.0)
-withdrawing_runs d k (Asks question rule) w m = absurd m
-withdrawing_runs d k (Fires e u) w m = absurd m
-withdrawing_runs d k (Unpauses e) w m = absurd m
-withdrawing_runs d k (Over rule frames) w m = absurd m
+leaving_runs : (step : steps.Step) (d : ℕ) (rule : Rule) (w : World) → IsLeaving step d rule
+    → (run rule w).2 ≡ (world.fire d cancelled (stepped step w)).1
+leaving_runs step d (Ends p) w m = absurd m
+leaving_runs step d (By rule) w m = absurd m
+leaving_runs step d (If b one other) w m = absurd m
+leaving_runs step d (Finds o none some) w m = absurd m
+leaving_runs step d (Then other rule) w m =
+    firing_runs d cancelled rule (stepped other w) m.1
+    ∙ ap (λ (s : steps.Step). (world.fire d cancelled (stepped s w)).1) m.0
+leaving_runs step d (Asks question rule) w m = absurd m
+leaving_runs step d (Fires e u) w m = absurd m
+leaving_runs step d (Unpauses e) w m = absurd m
+leaving_runs step d (Over rule frames) w m = absurd m
 
 -- a cancel, by whom it reaches
-other_calm : (r : Reached) (of : ℕ) (w u : World) → (cancel of w).0 ≡ r → ReachesNoItem r
+other_calm : (r : Reached) (of : ℕ) (w u : World) → (cancel of w).0 ≡ r → ReachesNoWaiter r
     → (HasReached (Some r) (cancel of w).1 → Calmly (cancel of w).1 u) → Calmly w u
 other_calm r of w u e q h =
-    let none = subst ReachesNoItem (sym e) q in
+    let none = subst ReachesNoWaiter (sym e) q in
     join_calm w (cancel of w).1 u (quietly w (cancel of w).1 (record { keeps = λ R l. l.by_cancel of w none }))
     (h (subst (λ x. HasReached (Some x) (cancel of w).1) e (cancel_reaches of w none)))
 
 cancel_calm : (r : Reached) (of : ℕ) (rule : Reached → Rule) (w : World) → (cancel of w).0 ≡ r
-    → ((d k : ℕ) → IsWithdrawing d k (rule (reached.ForItem d k)))
+    → AsksCalmly w (steps.Cancel of) rule
     → (HasReached (Some r) (cancel of w).1 → Calmly (cancel of w).1 (run (rule r) (cancel of w).1).2)
     → Calmly w (run (rule r) (cancel of w).1).2
 cancel_calm reached.Nothing of rule w e m h = other_calm reached.Nothing of w _ e tt h
 cancel_calm (reached.Fire d) of rule w e m h = other_calm (reached.Fire d) of w _ e tt h
 cancel_calm (reached.Run d body) of rule w e m h = other_calm (reached.Run d body) of w _ e tt h
-cancel_calm (reached.ForToken d l) of rule w e m h = other_calm (reached.ForToken d l) of w _ e tt h
+cancel_calm (reached.ForToken d l) of rule w e m h =
+    subst (λ u. Calmly w u)
+    (sym (leaving_runs (steps.Forget l d) d (rule (reached.ForToken d l)) (cancel of w).1 (m.1 d l)))
+    (record { keeps = λ R c. c.by_forget of d l w e })
 cancel_calm (reached.ForItem d k) of rule w e m h =
-    subst (λ u. Calmly w u) (sym (withdrawing_runs d k (rule (reached.ForItem d k)) (cancel of w).1 (m d k)))
-    (record { keeps = λ R l. l.by_withdraw of d k w e })
+    subst (λ u. Calmly w u)
+    (sym (leaving_runs (steps.Withdraw k d) d (rule (reached.ForItem d k)) (cancel of w).1 (m.0 d k)))
+    (record { keeps = λ R c. c.by_withdraw of d k w e })
 cancel_calm (reached.Children children) of rule w e m h = other_calm (reached.Children children) of w _ e tt h
 cancel_calm (reached.Inline i) of rule w e m h = other_calm (reached.Inline i) of w _ e tt h
 
@@ -276,7 +285,7 @@ put_calm (Some who) k v rule w e m h =
     (subst (λ x. Calmly w (handed x (world.put_into k v w).1)) e (record { keeps = λ R l. l.by_put k v w }))
 
 get_calm : (o : Option Value) (k d : ℕ) (rule : Option Value → Rule) (w : World) → (world.get_from k d w).0 ≡ o
-    → (w.stopped ≡ false → IsMade k d w.records) → ((v : Value) → IsFiring d v (rule (Some v)))
+    → (w.stopped ≡ false → IsMade (canceller.Item k) d w.records) → ((v : Value) → IsFiring d v (rule (Some v)))
     → (let u = (world.get_from k d w).1 in Calmly u (run (rule o) u).2 → Calmly w (run (rule o) u).2)
 get_calm None k d rule w e i m h =
     join_calm w (world.get_from k d w).1 _ (subst (λ x. Calmly w (handed_to d x (world.get_from k d w).1)) e
@@ -295,28 +304,69 @@ asked_calm (steps.Moves d) rule w m h = absurd m
 asked_calm question rule w m h =
     let u = (steps.asked question w).1 in join_calm w u _ (quietly w u (question_quiet question w tt)) (h tt)
 
+-- a token that is asked for or released, by who is granted one
+granted_calm : (o who : Option ℕ) (s : Semaphore) (rule : Rule) (w u : World) → who ≡ o → IsGranting who s rule
+    → Calmly w (granted who s.name u) → Calmly u (run rule u).2 → Calmly w (run rule u).2
+granted_calm None who s rule w u e m c h = join_calm w u _ (subst (λ x. Calmly w (granted x s.name u)) e c) h
+granted_calm (Some d) who s rule w u e m c h =
+    subst (λ v. Calmly w v) (sym (firing_runs d (Text s.name) rule u (m d e)))
+    (subst (λ x. Calmly w (granted x s.name u)) e c)
+
+-- each step, with what follows it
+reached_so : (o : Option Reached) (r : Reached) (w : World) → HasReached o w → o ≡ Some r → HasReached (Some r) w
+reached_so o r w h e = subst (λ x. HasReached x w) e h
+
+by_swallows : (o : Option Reached) (d : ℕ) (w : World) → HasReached o w → o ≡ Some (reached.Fire d)
+    → Calmly w (world.fire_then_swallow d w)
+by_swallows o d w h e = record { keeps = λ R l. l.by_fire_then_swallow d w (reached_so o (reached.Fire d) w h e) }
+
+stepped_calm : (step : steps.Step) (o : Option Reached) (rule : Rule) (w : World) → HasReached o w → IsCalm o step
+    → Follows w step rule
+    → (let u = stepped step w in Calmly u (run rule u).2 → Calmly w (run rule u).2)
+stepped_calm (steps.Put d v) o rule w h m f k = absurd m
+stepped_calm (steps.PutDeferred d e) o rule w h m f k = absurd m
+stepped_calm (steps.Advance ticks) o rule w h m f k = absurd m
+stepped_calm (steps.Withdraw n d) o rule w h m f k = absurd (reached_so o (reached.ForItem d n) w h m)
+stepped_calm (steps.Forget l d) o rule w h m f k = absurd (reached_so o (reached.ForToken d l) w h m)
+stepped_calm (steps.FireThenSwallow d) o rule w h m f k =
+    join_calm w (world.fire_then_swallow d w) _ (by_swallows o d w h m) k
+stepped_calm (steps.Name d name) o rule w h m f k =
+    join_calm w (stepped (steps.Name d name) w) _ (record { keeps = λ R l. l.by_name d name w }) k
+stepped_calm (steps.Append d pair) o rule w h m f k =
+    join_calm w (world.append d pair w) _ (record { keeps = λ R l. l.by_append d pair w }) k
+stepped_calm (steps.Ask l d) o rule w h m f k =
+    granted_calm (asking d f.0) (asking d f.0) f.0 rule w (world.ask l d w) refl f.3
+    (record { keeps = λ R c. c.by_ask l d f.0 w f.1 f.2 }) k
+stepped_calm (steps.Release l) o rule w h m f k =
+    granted_calm (first_waiting f.0) (first_waiting f.0) f.0 rule w (world.release l w) refl f.3
+    (record { keeps = λ R c. c.by_release l f.0 w f.1 f.2 }) k
+stepped_calm step o rule w h m f k =
+    join_calm w (stepped step w) _ (quietly w (stepped step w) (step_quiet step w tt)) k
+
 next_calm : (d : ℕ) (o : Follow) (w u : World) → Calmly w u → Calmly w (settle_next d o u).2
 next_calm d o w u c = subst (λ x. Calmly w x) (sym (next_same d o u)) c
 
-either_calm : (b : Bool) (w : World) (t u : Turned) → Calmly w t.2 → Calmly w u.2 → Calmly w (if b then t else u).2
-either_calm true w t u c d = c
-either_calm false w t u c d = d
+either_calm : (b : Bool) (w : World) (t u : Turned) → (b ≡ true → Calmly w t.2) → (b ≡ false → Calmly w u.2)
+    → Calmly w (if b then t else u).2
+either_calm true w t u c d = c refl
+either_calm false w t u c d = d refl
 
 found_calm : {A : Type 0} (o : Option A) (w : World) (t : Turned) (f : A → Turned) → Calmly w t.2
-    → ((a : A) → Calmly w (f a).2) → Calmly w (found o t f).2
+    → ((a : A) → o ≡ Some a → Calmly w (f a).2) → Calmly w (found o t f).2
 found_calm None w t f c d = c
-found_calm (Some a) w t f c d = d a
+found_calm (Some a) w t f c d = d a refl
 
 pub rule_calm : (rule : Rule) (o : Option Reached) (w : World) → HasReached o w → Mildly o w rule
     → Calmly w (run rule w).2
 rule_calm (Ends p) o w h m = quietly w w (same w)
 rule_calm (By rule) o w h m = rule_calm (rule w) o w h m
 rule_calm (If b one other) o w h m =
-    either_calm b w (run one w) (run other w) (rule_calm one o w h m.0) (rule_calm other o w h m.1)
+    either_calm b w (run one w) (run other w) (λ e. rule_calm one o w h (m.0 e)) (λ e. rule_calm other o w h (m.1 e))
 rule_calm (Finds x none some) o w h m =
-    found_calm x w (run none w) (λ a. run (some a) w) (rule_calm none o w h m.0) (λ a. rule_calm (some a) o w h (m.1 a))
+    found_calm x w (run none w) (λ a. run (some a) w) (rule_calm none o w h m.0)
+    (λ a e. rule_calm (some a) o w h (m.1 a e))
 rule_calm (Then step rule) o w h m =
-    join_calm w (stepped step w) _ (step_calm step o w h m.0) (rule_calm rule None (stepped step w) tt m.2)
+    stepped_calm step o rule w h m.0 m.1 (rule_calm rule None (stepped step w) tt m.2)
 rule_calm (Asks question rule) o w h m =
     let a = steps.asked question w in
     asked_calm question rule w m.0 (λ r. rule_calm (rule a.0) (reached_by question a.0) a.1 r (m.1 a.0))
@@ -331,22 +381,23 @@ next_free d follow.Settle u = (tt, tt)
 next_free d follow.Nothing u = tt
 next_free d (follow.Raise failure) u = tt
 
-either_free : (b : Bool) (t u : Turned) → AllPutNothing t.0 → AllPutNothing u.0 → AllPutNothing (if b then t else u).0
-either_free true t u c d = c
-either_free false t u c d = d
+either_free : (b : Bool) (t u : Turned) → (b ≡ true → AllPutNothing t.0) → (b ≡ false → AllPutNothing u.0)
+    → AllPutNothing (if b then t else u).0
+either_free true t u c d = c refl
+either_free false t u c d = d refl
 
 found_free : {A : Type 0} (o : Option A) (t : Turned) (f : A → Turned) → AllPutNothing t.0
-    → ((a : A) → AllPutNothing (f a).0) → AllPutNothing (found o t f).0
+    → ((a : A) → o ≡ Some a → AllPutNothing (f a).0) → AllPutNothing (found o t f).0
 found_free None t f c d = c
-found_free (Some a) t f c d = d a
+found_free (Some a) t f c d = d a refl
 
 pub rule_free : (rule : Rule) (o : Option Reached) (w : World) → Mildly o w rule → AllPutNothing (run rule w).0
 rule_free (Ends p) o w m = tt
 rule_free (By rule) o w m = rule_free (rule w) o w m
 rule_free (If b one other) o w m =
-    either_free b (run one w) (run other w) (rule_free one o w m.0) (rule_free other o w m.1)
+    either_free b (run one w) (run other w) (λ e. rule_free one o w (m.0 e)) (λ e. rule_free other o w (m.1 e))
 rule_free (Finds x none some) o w m =
-    found_free x (run none w) (λ a. run (some a) w) (rule_free none o w m.0) (λ a. rule_free (some a) o w (m.1 a))
+    found_free x (run none w) (λ a. run (some a) w) (rule_free none o w m.0) (λ a e. rule_free (some a) o w (m.1 a e))
 rule_free (Then step rule) o w m = rule_free rule None (stepped step w) m.2
 rule_free (Asks question rule) o w m =
     let a = steps.asked question w in rule_free (rule a.0) (reached_by question a.0) a.1 (m.1 a.0)
@@ -378,50 +429,66 @@ all_mild (All ds) r w h = h ds
 all_mild (Unbound name) r w h = tt
 
 list_mild : (name children : List ℕ) (flags : Flags) (w : World) → Mildly None w (page.list name children flags)
-list_mild name children flags w = (tt, tt, (tt, tt, ((tt, tt), add_free _ _ 0 children)))
+list_mild name children flags w = (tt, tt, (tt, tt, ((λ b. tt, λ b. tt), add_free _ _ 0 children)))
 
--- a Deferred that is made with a queue that it asks
+-- a Deferred that is made with a queue or a lock that it asks
 at_last : {X : Type 0} (l : List X) (x : X) → slice_get (l ++ x ∷ []) (length l) ≡ Some x
 at_last [] x = refl
 at_last (y ∷ l) x = at_last l x
 
-made_named : (b : Bool) (name : List ℕ) (k : ℕ) (w : World)
-    → (let made = new_record (Some name) (Some (canceller.Item k)) in
+made_named : (b : Bool) (name : List ℕ) (by : Canceller) (w : World)
+    → (let made = new_record (Some name) (Some by) in
     let t = cond {A = Result ℕ Stop × Both} b (
       Ok (length w.records),
       telling_of (entry.New (length w.records) (Some name)) (w.records ++ made ∷ []) (state_of w),
     ) (Err stop.Limit, state_of w) in
-    let u = world.named (Some name) t.0 t.1 w in u.stopped ≡ false → IsMade k (length w.records) u.records)
-made_named true name k w h = record {
-  made = new_record (Some name) (Some (canceller.Item k));
-  found = at_last w.records (new_record (Some name) (Some (canceller.Item k)));
-  item = refl;
+    let u = world.named (Some name) t.0 t.1 w in u.stopped ≡ false → IsMade by (length w.records) u.records)
+made_named true name by w h = record {
+  made = new_record (Some name) (Some by);
+  found = at_last w.records (new_record (Some name) (Some by));
+  leaves = refl;
   fresh = refl;
 }
-made_named false name k w h = absurd cc
+made_named false name by w h = absurd cc
 
-made_unless : (b : Bool) (w u : World) (d k : ℕ) → w.stopped ≡ b → (u.stopped ≡ false → IsMade k d u.records)
-    → (let v = cond b w u in v.stopped ≡ false → IsMade k d v.records)
-made_unless true w u d k e m h = let wrong : true ≡ false = sym e ∙ h in absurd cc
-made_unless false w u d k e m h = m h
+made_unless : (b : Bool) (w u : World) (d : ℕ) (by : Canceller) → w.stopped ≡ b
+    → (u.stopped ≡ false → IsMade by d u.records)
+    → (let v = cond b w u in v.stopped ≡ false → IsMade by d v.records)
+made_unless true w u d by e m h = let wrong : true ≡ false = sym e ∙ h in absurd cc
+made_unless false w u d by e m h = m h
 
-made_there : (name : List ℕ) (k : ℕ) (w : World)
-    → (let u = make (Some name) (Some (canceller.Item k)) w in
-    u.stopped ≡ false → IsMade k (length w.records) u.records)
+made_there : (name : List ℕ) (by : Canceller) (w : World)
+    → (let u = make (Some name) (Some by) w in u.stopped ≡ false → IsMade by (length w.records) u.records)
 unfolding make
-made_there name k w =
-    made_unless w.stopped w _ (length w.records) k refl
-    (made_named (fits w.journal (entry.New (length w.records) (Some name))) name k w)
+made_there name by w =
+    made_unless w.stopped w _ (length w.records) by refl
+    (made_named (fits w.journal (entry.New (length w.records) (Some name))) name by w)
 
--- one that a cancel reaches while it waits for a value
-cancel_withdraws : (d k : ℕ) → IsWithdrawing d k (page.cancel_reached (reached.ForItem d k))
-cancel_withdraws d k = ((refl, refl), (refl, refl))
+-- one that a cancel reaches while it waits for a value, or for a token
+cancel_leaves : (w : World) (of : ℕ) → AsksCalmly w (steps.Cancel of) page.cancel_reached
+cancel_leaves w of = (λ d k. (refl, (refl, refl)), λ d l. (refl, (refl, refl)))
+
+-- one that asks a lock, and a token that is released
+granting : (who : Option ℕ) (s : Semaphore) → IsGranting who s (page.grant who s.name)
+granting who s e q = (e, q, (refl, refl))
+
+ask_mild : (l d : ℕ) (w : World) → (w.stopped ≡ false → IsMade (canceller.Token l) d w.records)
+    → Mildly None w (page.ask_lock l d)
+ask_mild l d w m = (tt, λ s g. (tt, (s, g, m, granting (asking d s) s), (tt, λ e q. tt)))
+
+acquire_mild : (name : List ℕ) (l : ℕ) (w : World) → Mildly None w (page.acquire name l)
+acquire_mild name l w =
+    let by = canceller.Token l in
+    (tt, tt, ask_mild l (length w.records) (make (Some name) (Some by) w) (made_there name by w))
+
+release_mild : (l : ℕ) (w : World) → Mildly None w (page.release l)
+release_mild l w = (tt, λ s g. (λ u. tt, λ u. (tt, (s, g, u, granting (first_waiting s) s), (tt, λ e q. tt))))
 
 reached_mild : (r : Reached) (w : World) → Mildly (Some r) w (page.cancel_reached r)
 reached_mild reached.Nothing w = tt
 reached_mild (reached.Fire d) w = (refl, refl, (tt, (tt, tt)))
 reached_mild (reached.Run d body) w = search [] depth 20
-reached_mild (reached.ForToken d l) w = search [] depth 20
+reached_mild (reached.ForToken d l) w = (refl, tt, tt)
 reached_mild (reached.ForItem d k) w = (refl, tt, tt)
 reached_mild (reached.Children children) w = (tt, children_free children)
 reached_mild (reached.Inline i) w = search [] depth 20
@@ -436,7 +503,7 @@ end_mild : (t : ℕ) (end : TaskEnd) (w : World) → Mildly None w (page.end_tas
 end_mild t end w = (tt, λ ds. (tt, tt, (tt, notify_free t ds)))
 
 await_mild : (i : Inline) (name : List ℕ) (p : Position) (w : World) → Mildly None w (page.await i name p)
-await_mild i name p w = ((tt, (tt, tt)), λ e. (tt, tt, (add_mild e (continuing i) w, (tt, tt))))
+await_mild i name p w = ((tt, (tt, tt)), λ e q. (tt, tt, (add_mild e (continuing i) w, (tt, tt))))
 
 resume_mild : (i : Inline) (input : Value) (w : World) → Mildly None w (page.resume i input)
 resume_mild i input w = search [] depth 20
@@ -450,30 +517,40 @@ carry_mild itself (Action-F.Note text) w = search [] depth 20
 carry_mild itself (Action-F.Deferred name canceller) w = search [] depth 20
 carry_mild itself (Action-F.Callback name value) w = search [] depth 20
 carry_mild itself (Action-F.Errback name class message) w = search [] depth 20
-carry_mild itself (Action-F.AddCallback name body) w = (tt, λ d. add_mild d (callback body) w)
-carry_mild itself (Action-F.AddErrback name body) w = (tt, λ d. add_mild d (errback body) w)
-carry_mild itself (Action-F.AddBoth name body) w = (tt, λ d. add_mild d (both body body) w)
+carry_mild itself (Action-F.AddCallback name body) w = (tt, λ d e. add_mild d (callback body) w)
+carry_mild itself (Action-F.AddErrback name body) w = (tt, λ d e. add_mild d (errback body) w)
+carry_mild itself (Action-F.AddBoth name body) w = (tt, λ d e. add_mild d (both body body) w)
 carry_mild itself (Action-F.AddCallbacks name on_value on_failure) w =
-    (tt, λ d. add_mild d (both on_value on_failure) w)
-carry_mild itself (Action-F.Chain name after) w = (tt, λ d. (tt, λ e. add_mild d (chain e) w))
+    (tt, λ d e. add_mild d (both on_value on_failure) w)
+carry_mild itself (Action-F.Chain name after) w = (tt, λ d q. (tt, λ e r. add_mild d (chain e) w))
 carry_mild itself (Action-F.Pause name) w = search [] depth 20
 carry_mild itself (Action-F.Unpause name) w = search [] depth 20
 carry_mild itself (Action-F.Cancel name) w =
-    (tt, λ d. (cancel_withdraws, λ r. reached_mild r (cancel d w).1))
+    (tt, λ d e. (cancel_leaves w d, λ r. reached_mild r (cancel d w).1))
 carry_mild itself (Action-F.AddTimeout name delay body) w =
-    (tt, λ d. (tt, tt, (add_mild d (watching (length w.objects.clock.calls) body) w, (tt, tt))))
+    (tt, λ d e. (tt, tt, (add_mild d (watching (length w.objects.clock.calls) body) w, (tt, tt))))
 carry_mild itself (Action-F.Lock name) w = search [] depth 20
 carry_mild itself (Action-F.Semaphore name tokens) w = search [] depth 20
-carry_mild itself (Action-F.Acquire name lock) w = search [] depth 20
-carry_mild itself (Action-F.RunWith name lock body) w = search [] depth 20
-carry_mild itself (Action-F.Release lock) w = search [] depth 20
+carry_mild itself (Action-F.Acquire name lock) w = (tt, λ l e. acquire_mild name l w)
+carry_mild itself (Action-F.RunWith name lock body) w = (tt, λ l e. (acquire_mild name l w, (tt, tt)))
+carry_mild itself (Action-F.Release lock) w = (tt, λ l e. release_mild l w)
 carry_mild itself (Action-F.Maybe name body) w = search [] depth 20
 carry_mild itself (Action-F.Queue name size backlog) w = search [] depth 20
 carry_mild itself (Action-F.Put queue value) w =
-    (tt, λ k. (tt, λ q. (tt, (λ who. (who, refl, (refl, refl)), λ who. (tt, λ p. tt)))))
+    (tt, λ k e. (tt, λ q g. (λ b. tt, λ b. (λ who. (who, refl, (refl, refl)), λ who. (tt, λ p h. tt)))))
 carry_mild itself (Action-F.Get name queue) w = (
   tt,
-  λ k. (tt, λ q. (tt, (tt, tt, ((made_there name k w, λ v. (v, refl, (refl, refl))), λ got. (tt, λ v. tt))))),
+  λ k e. (
+    tt,
+    λ q g. (
+      λ b. tt,
+      λ b. (
+        tt,
+        tt,
+        ((made_there name (canceller.Item k) w, λ v. (v, refl, (refl, refl))), λ got. (tt, λ v h. tt)),
+      ),
+    ),
+  ),
 )
 carry_mild itself (Action-F.List name children flags) w =
     all_mild (deferreds_at itself children w) _ w (λ ds. list_mild name ds (page_flags.list_flags flags) w)
@@ -490,7 +567,7 @@ carry_mild itself (Action-F.Units units) w = search [] depth 20
 carry_mild itself (Action-F.Cooperate name bodies) w = search [] depth 20
 carry_mild itself (Action-F.WhenDone name task) w = search [] depth 20
 carry_mild itself (Action-F.PauseTask name) w = search [] depth 20
-carry_mild itself (Action-F.StopTask name) w = (tt, λ t. (tt, λ x. (end_mild t Stopped w, λ end. tt)))
+carry_mild itself (Action-F.StopTask name) w = (tt, λ t e. (tt, λ x g. (end_mild t Stopped w, λ end f. tt)))
 carry_mild itself (Action-F.ResumeTask name) w = search [] depth 20
 carry_mild itself (Action-F.Inline name statements) w = search [] depth 20
 carry_mild itself (Action-F.Thread name delay work) w = search [] depth 20
@@ -498,7 +575,7 @@ carry_mild itself (Action-F.ThreadIn name pool delay work) w = search [] depth 2
 
 rest_mild : (itself : Option ℕ) (actions : List Action) (end : End) (input : Value) (w : World)
     → Mildly None w (page.perform_rest itself actions end input)
-rest_mild itself [] end input w = (tt, λ declared. (tt, λ begun. (tt, λ body. (tt, (tt, tt)))))
+rest_mild itself [] end input w = (tt, λ declared e. (tt, λ begun. (tt, λ body f. (tt, (tt, tt)))))
 rest_mild itself (action ∷ rest) end input w = (carry_mild itself (out-Action action) w, (tt, tt))
 
 requested_mild : (i : Inline) (o : Option Request) (p : Position) (w : World) → Mildly None w (page.do_requested i o p)
@@ -507,7 +584,7 @@ requested_mild i (Some (Do action)) p w = (carry_mild (Some i.of) (out-Action ac
 requested_mild i (Some (Await name)) p w = await_mild i name p w
 
 inline_mild : (x : Inlining) (o : Performed) (w : World) → Mildly None w (scripts.inline_goes x o)
-inline_mild (Goes i p) o w = (requested_mild i (request_at (run_to_request p)) (run_to_request p) w, λ result. tt)
+inline_mild (Goes i p) o w = (requested_mild i (request_at (run_to_request p)) (run_to_request p) w, λ result e. tt)
 inline_mild (Acted i p) o w = search [] depth 20
 inline_mild (Awaited i e p) o w = awaited_mild i e p w
 
@@ -530,7 +607,7 @@ maybe_mild purpose (Awaits e) w = taken_mild purpose e w
 
 step_mild : (t : ℕ) (p : Performed) (w : World) → Mildly None w (page.after_step t p)
 step_mild t Done w = tt
-step_mild t (Gave v) w = (tt, λ failure. end_mild t (Failed failure) w)
+step_mild t (Gave v) w = (tt, λ failure e. end_mild t (Failed failure) w)
 step_mild t (Raised failure) w = end_mild t (Failed failure) w
 step_mild t (Awaits e) w = search [] depth 20
 
@@ -567,13 +644,16 @@ rule_mild (frame.Rest rest) p w m =
 rule_mild (frame.Canceller d) p w m = search [] depth 20
 rule_mild (frame.Maybe purpose) p w m = maybe_mild purpose p w
 rule_mild (frame.Add d pair) p w m = add_mild d pair w
-rule_mild (frame.Cancel d) p w m = (cancel_withdraws, λ r. reached_mild r (cancel d w).1)
+rule_mild (frame.Cancel d) p w m = (cancel_leaves w d, λ r. reached_mild r (cancel d w).1)
 rule_mild (frame.Give given) p w m = unless_mild p _ w tt
 rule_mild (frame.Notify d t) p w m = search [] depth 20
-rule_mild (frame.Stepped t) p w m = (tt, step_mild t p w)
+rule_mild (frame.Stepped t) p w m = (λ b. tt, λ b. step_mild t p w)
 rule_mild (frame.Tick units) p w m = (
-  ended_mild w,
-  (tt, λ taken. (ended_mild w, λ now. ((end_mild now.0 Finished w, λ body. (tt, (tt, (tt, tt)))), (tt, tt)))),
+  λ b. ended_mild w,
+  λ b. (
+    tt,
+    λ taken. (ended_mild w, λ now e. ((end_mild now.0 Finished w, λ body f. (tt, (tt, (tt, tt)))), (tt, tt))),
+  ),
 )
 rule_mild frame.Tell p w m = search [] depth 20
 rule_mild frame.Due p w m = (tt, λ o. due_mild o (world.take_due w).1)
@@ -589,11 +669,11 @@ side_rule_mild d (Some (side.EndTimer t)) input w = search [] depth 20
 side_rule_mild d (Some (side.Report child)) input w = search [] depth 20
 side_rule_mild d (Some side.Results) input w = search [] depth 20
 side_rule_mild d (Some (side.Hold l body)) input w = search [] depth 20
-side_rule_mild d (Some (side.Release l)) input w = search [] depth 20
+side_rule_mild d (Some (side.Release l)) input w = (release_mild l w, (tt, tt))
 side_rule_mild d (Some (side.NextTurn l)) input w = search [] depth 20
 side_rule_mild d (Some (side.EndLoop l)) input w = search [] depth 20
 side_rule_mild d (Some (side.ResumeTask t)) input w = search [] depth 20
-side_rule_mild d (Some (side.FailTask t)) input w = (tt, λ failure. end_mild t (Failed failure) w)
+side_rule_mild d (Some (side.FailTask t)) input w = (tt, λ failure e. end_mild t (Failed failure) w)
 side_rule_mild d (Some (side.Resume i)) input w = resume_mild i input w
 
 -- what a rule leaves, run
@@ -616,12 +696,12 @@ action_mild action w =
 
 pub drain_mild : (w : World) → Mild w (done (world.tell entry.Drain w))
 drain_mild w = record {
-  comes = quietly w _ (by_aside entry.Drain _ w refl tt (λ k. Leaves (refl, refl, refl)) (λ k. k)
+  comes = quietly w _ (by_aside entry.Drain _ w refl (tt, tt) (λ k. Leaves (refl, refl, refl)) (λ k. k)
       (resting _ _ _ refl refl refl refl refl refl refl refl refl) refl);
   free = tt;
 }
 
 pub post_comes : (caller index : ℕ) (w : World) → Calmly w (world.tell (entry.Post caller index) w)
 post_comes caller index w =
-    quietly w _ (by_aside (entry.Post caller index) _ w refl tt (λ k. Leaves (refl, refl, refl)) (λ k. k)
+    quietly w _ (by_aside (entry.Post caller index) _ w refl (tt, tt) (λ k. Leaves (refl, refl, refl)) (λ k. k)
     (resting _ _ _ refl refl refl refl refl refl refl refl refl) refl)

@@ -68,7 +68,7 @@ use Rattle.dv_laws.proofs.Settles.{place_runs}
 use Rattle.dv_objects.specs.Objects.{with_time}
 use Rattle.dv_laws.proofs.Steps.{put_cases, put_deferred_cases, append_cases, pause_cases, make_cases, aside_cases}
 use Rattle.dv_laws.proofs.Steps.{arrange_cases, submit_cases, cancel_cases, fire_cases, step_cases, unless}
-use Rattle.dv_laws.proofs.Steps.{put_into_cases, get_from_cases}
+use Rattle.dv_laws.proofs.Steps.{put_into_cases, get_from_cases, ask_cases, release_cases}
 
 -- 1. Which Deferred may use an item.
 
@@ -291,7 +291,8 @@ settled_pays d rule w u h m p =
 quiet_pays : (w u : World) (t : Turned) → Less w u → Paid u t → Paid w t
 quiet_pays w u t l p = record { each = λ n. omega (arith, l.each n, p.each n) }
 
--- who gets a name, or waits no longer for a value, owes nothing more, nor does anybody where a question is asked
+-- who gets a name, or waits no longer for a value or a token, owes nothing more, nor does anybody where a lock or a
+-- question is asked
 name_less : (d : ℕ) (name : List ℕ) (w : World) → Less w (stepped (steps.Name d name) w)
 name_less d name w =
     aside_cases w (Less w) (less_same w) (less_stop w) (entry.Name d (Some name)) _ (λ x. record {
@@ -300,6 +301,16 @@ name_less d name w =
 
 withdrawn_less : (k d : ℕ) (w : World) → Less w (world.withdraw k d w)
 withdrawn_less k d w = arrange_cases w (Less w) (less_same w) (less_stop w) _ (record { each = λ n. omega arith })
+
+asked_less : (l d : ℕ) (w : World) → Less w (world.ask l d w)
+asked_less l d w = ask_cases w (Less w) (less_same w) (less_stop w) l d (λ s x g. record { each = λ n. omega arith })
+
+released_less : (l : ℕ) (w : World) → Less w (world.release l w)
+released_less l w =
+    release_cases w (Less w) (less_same w) (less_stop w) l (λ s x g u. record { each = λ n. omega arith })
+
+forgotten_less : (l d : ℕ) (w : World) → Less w (world.forget l d w)
+forgotten_less l d w = arrange_cases w (Less w) (less_same w) (less_stop w) _ (record { each = λ n. omega arith })
 
 question_less : (question : Question) (rule : Reply question → Rule) (w : World) → AsksCalmly w question rule
     → Less w (steps.asked question w).1
@@ -312,7 +323,7 @@ question_less (steps.GetFrom k d) rule w m =
 question_less (steps.Moves d) rule w m = absurd m
 question_less question rule w m = (question_quiet question w tt).keeps Less quiet_less
 
-step_pays : (step : steps.Step) (o : Option Reached) (rule : Rule) (w : World) → IsCalm o step → Follows step rule
+step_pays : (step : steps.Step) (o : Option Reached) (rule : Rule) (w : World) → IsCalm o step → Follows w step rule
     → Paid (stepped step w) (run_rule rule (stepped step w)) → Paid w (run_rule rule (stepped step w))
 step_pays (steps.Put d v) o rule w c f p = absurd c
 step_pays (steps.PutDeferred d e) o rule w c f p = absurd c
@@ -325,26 +336,34 @@ step_pays (steps.FireThenSwallow d) o rule w c f p =
     settled_pays d rule w (fire_then_swallow d w) (λ n. swallows_more n d w) f p
 step_pays (steps.Withdraw k d) o rule w c f p =
     quiet_pays w (world.withdraw k d w) (run_rule rule (world.withdraw k d w)) (withdrawn_less k d w) p
+step_pays (steps.Ask l d) o rule w c f p =
+    quiet_pays w (world.ask l d w) (run_rule rule (world.ask l d w)) (asked_less l d w) p
+step_pays (steps.Release l) o rule w c f p =
+    quiet_pays w (world.release l w) (run_rule rule (world.release l w)) (released_less l w) p
+step_pays (steps.Forget l d) o rule w c f p =
+    quiet_pays w (world.forget l d w) (run_rule rule (world.forget l d w)) (forgotten_less l d w) p
 step_pays step o rule w c f p =
     quiet_pays w (stepped step w) (run_rule rule (stepped step w)) ((step_quiet step w tt).keeps Less quiet_less) p
 
-either_pays : (b : Bool) (w : World) (t u : Turned) → Paid w t → Paid w u → Paid w (if b then t else u)
-either_pays true w t u c d = c
-either_pays false w t u c d = d
+either_pays : (b : Bool) (w : World) (t u : Turned) → (b ≡ true → Paid w t) → (b ≡ false → Paid w u)
+    → Paid w (if b then t else u)
+either_pays true w t u c d = c refl
+either_pays false w t u c d = d refl
 
-found_pays : {A : Type 0} (o : Option A) (w : World) (t : Turned) (f : A → Turned) → Paid w t → ((a : A) → Paid w (f a))
-    → Paid w (found o t f)
+found_pays : {A : Type 0} (o : Option A) (w : World) (t : Turned) (f : A → Turned) → Paid w t
+    → ((a : A) → o ≡ Some a → Paid w (f a)) → Paid w (found o t f)
 found_pays None w t f c d = c
-found_pays (Some a) w t f c d = d a
+found_pays (Some a) w t f c d = d a refl
 
 rule_pays : (rule : Rule) (o : Option Reached) (w : World) → Mildly o w rule → Paid w (run_rule rule w)
 rule_pays (Ends p) o w m = record { each = λ n. omega arith }
 rule_pays (By rule) o w m = rule_pays (rule w) o w m
 rule_pays (If b one other) o w m =
-    either_pays b w (run_rule one w) (run_rule other w) (rule_pays one o w m.0) (rule_pays other o w m.1)
+    either_pays b w (run_rule one w) (run_rule other w) (λ e. rule_pays one o w (m.0 e))
+    (λ e. rule_pays other o w (m.1 e))
 rule_pays (Finds x none some) o w m =
     found_pays x w (run_rule none w) (λ a. run_rule (some a) w) (rule_pays none o w m.0)
-    (λ a. rule_pays (some a) o w (m.1 a))
+    (λ a e. rule_pays (some a) o w (m.1 a e))
 rule_pays (Then step rule) o w m = step_pays step o rule w m.0 m.1 (rule_pays rule None (stepped step w) m.2)
 rule_pays (Asks question rule) o w m =
     let a = steps.asked question w in

@@ -1,14 +1,16 @@
 -- A stopped world stays as it is, whichever step it takes.
-use Rattle.std.specs.Prelude.{◌≡◌, ℕ, Bool, true, false, List, Option}
+use Rattle.std.specs.Prelude.{◌≡◌, ℕ, Bool, true, false, List, Option, None, Some, slice_get}
 use Rattle.std.proofs.Common.{cond, refl, sym, subst}
 use Rattle.dv_value.specs.declared.value.Value.{Value}
 use Rattle.dv_journal.specs.declared.entry.Entry.{Entry}
-use Rattle.dv_objects.specs.Objects.{Objects}
+use Rattle.dv_journal.specs.declared.entry.Entry.TheVariants as entry
+use Rattle.dv_objects.specs.Objects.{Objects, with_lock}
 use Rattle.dv_objects.specs.Pair.{Pair}
 use Rattle.dv_objects.specs.declared.canceller.Canceller.{Canceller}
+use Rattle.dv_prims.specs.Tokens.{Semaphore, is_unheld, asked, released}
 use Rattle.dv_script.specs.declared.work.Work.{Work}
 use Rattle.dv_world.specs.World.{World, step, put, put_deferred, append, make, fire, fire_then_swallow, cancel, pause}
-use Rattle.dv_world.specs.World.{unpause, aside, arrange, submit}
+use Rattle.dv_world.specs.World.{unpause, aside, arrange, submit, lock_told, ask, release_found, release}
 
 kept : (b : Bool) (w u : World) → b ≡ true → cond b w u ≡ w
 kept true w u h = refl
@@ -72,6 +74,27 @@ pub submit_stays : (d : ℕ) (pool : Option (List ℕ)) (work : Work) (w : World
     → submit d pool work w ≡ w
 unfolding submit
 submit_stays d pool work w h = kept w.stopped w _ h
+
+lock_told_stays : (l : ℕ) (e : Semaphore → Entry) (change : Semaphore → Semaphore) (o : Option Semaphore) (w : World)
+    → w.stopped ≡ true → lock_told l e change o w ≡ w
+lock_told_stays l e change None w h = refl
+lock_told_stays l e change (Some s) w h = aside_stays (e s) (with_lock l (change s)) w h
+
+pub ask_stays : (l d : ℕ) (w : World) → w.stopped ≡ true → ask l d w ≡ w
+ask_stays l d w h =
+    lock_told_stays l (λ s. entry.Acquire s.name d) (asked d) (slice_get w.objects.semaphores l) w h
+
+held_stays : (b : Bool) (l : ℕ) (s : Semaphore) (w : World) → w.stopped ≡ true
+    → cond b w (aside (entry.Release s.name) (with_lock l (released s)) w) ≡ w
+held_stays true l s w h = refl
+held_stays false l s w h = aside_stays (entry.Release s.name) (with_lock l (released s)) w h
+
+release_found_stays : (l : ℕ) (o : Option Semaphore) (w : World) → w.stopped ≡ true → release_found l o w ≡ w
+release_found_stays l None w h = refl
+release_found_stays l (Some s) w h = held_stays (is_unheld s) l s w h
+
+pub release_stays : (l : ℕ) (w : World) → w.stopped ≡ true → release l w ≡ w
+release_stays l w h = release_found_stays l (slice_get w.objects.semaphores l) w h
 
 -- so what holds of a world that stays, and of one that has taken a step, holds after the step
 live_by : (b : Bool) (P : World → Type 0) (w u : World) → w.stopped ≡ b → P w → (w.stopped ≡ true → u ≡ w)

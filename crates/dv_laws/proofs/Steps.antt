@@ -38,8 +38,10 @@ use Rattle.dv_objects.specs.Objects.{Objects}
 use Rattle.dv_world.specs.World.{World, Records, state_of, after, moved, named, unpaused, step, put, put_deferred}
 use Rattle.dv_world.specs.World.{append, make, cancel, reached_from, pause, with_state, with_stop, unpause, aside}
 use Rattle.dv_world.specs.World.{arrange, submit, unless_stopped, put_into_found, put_into, get_from_found, get_from}
-use Rattle.dv_objects.specs.Objects.{with_queue}
+use Rattle.dv_world.specs.World.{lock_told, ask, release_found, release}
+use Rattle.dv_objects.specs.Objects.{with_queue, with_lock}
 use Rattle.dv_prims.specs.Queue.{Queue, may_put, receiver, put_to, got_from}
+use Rattle.dv_prims.specs.Tokens.{Semaphore, is_unheld, asked, released}
 use Rattle.std.proofs.Common.{sym, subst}
 use Rattle.std.specs.Prelude.{if◌then◌else◌}
 use Rattle.dv_objects.specs.declared.follow.Follow.TheVariants as follow
@@ -174,6 +176,45 @@ module _ (w : World) (P : World → Type 0) (stays : P w) (stops : P (with_stop 
   pub arrange_cases : (change : Objects → Objects) → P (record w { objects = change w.objects }) → P (arrange change w)
   unfolding arrange
   arrange_cases change h = unless w.stopped _ h
+
+  -- a lock is asked for a token by d, or a token of it is released
+  abbrev AsksLock : ℕ → ℕ → Type 0
+  AsksLock l d =
+      (s : Semaphore) → fits w.journal (entry.Acquire s.name d) ≡ true → slice_get w.objects.semaphores l ≡ Some s
+      → P (record w {
+        objects = with_lock l (asked d s) w.objects;
+        journal = with_entry w.journal (entry.Acquire s.name d);
+      })
+
+  ask_found_cases : (l d : ℕ) (o : Option Semaphore) → slice_get w.objects.semaphores l ≡ o → AsksLock l d
+      → P (lock_told l (λ s. entry.Acquire s.name d) (asked d) o w)
+  ask_found_cases l d None g h = stays
+  ask_found_cases l d (Some s) g h = aside_cases (entry.Acquire s.name d) (with_lock l (asked d s)) (λ x. h s x g)
+
+  pub ask_cases : (l d : ℕ) → AsksLock l d → P (ask l d w)
+  ask_cases l d h = ask_found_cases l d _ refl h
+
+  abbrev ReleasesLock : ℕ → Type 0
+  ReleasesLock l =
+      (s : Semaphore) → fits w.journal (entry.Release s.name) ≡ true → slice_get w.objects.semaphores l ≡ Some s
+      → is_unheld s ≡ false
+      → P (record w {
+        objects = with_lock l (released s) w.objects;
+        journal = with_entry w.journal (entry.Release s.name);
+      })
+
+  held_cases : (l : ℕ) (s : Semaphore) (b : Bool) → is_unheld s ≡ b → slice_get w.objects.semaphores l ≡ Some s
+      → ReleasesLock l → P (if b then w else aside (entry.Release s.name) (with_lock l (released s)) w)
+  held_cases l s true u g h = stays
+  held_cases l s false u g h = aside_cases (entry.Release s.name) (with_lock l (released s)) (λ x. h s x g u)
+
+  release_found_cases : (l : ℕ) (o : Option Semaphore) → slice_get w.objects.semaphores l ≡ o → ReleasesLock l
+      → P (release_found l o w)
+  release_found_cases l None g h = stays
+  release_found_cases l (Some s) g h = held_cases l s _ refl g h
+
+  pub release_cases : (l : ℕ) → ReleasesLock l → P (release l w)
+  release_cases l h = release_found_cases l _ refl h
 
   submitted_cases : (d : ℕ) (pool : Option (List ℕ)) (work : Work) (b : Bool)
       → fits w.journal (entry.Job (length w.works) d) ≡ b

@@ -2,7 +2,7 @@
 use Rattle.std.specs.Prelude.{◌≡◌, ℕ, ◌+◌, ◌-◌, true, false, nat_eq, List, [], ◌∷◌, ◌++◌, Option, None, Some}
 use Rattle.std.specs.Prelude.{length, slice_get, slice_set}
 use Rattle.std.proofs.Common.{refl}
-use Rattle.dv_value.specs.declared.value.Value.{Value}
+use Rattle.dv_value.specs.declared.value.Value.{Value, Text}
 use Rattle.dv_journal.specs.Journal.{fits, with_entry}
 use Rattle.dv_journal.specs.Told.{change_of, Aside}
 use Rattle.dv_journal.specs.declared.entry.Entry.{Entry}
@@ -12,23 +12,25 @@ use Rattle.dv_store.specs.Fire as firing
 use Rattle.dv_store.specs.Pausing.{with_pauses}
 use Rattle.dv_store.specs.Record.{with_item, new_record}
 use Rattle.dv_store.specs.declared.record.Item.TheVariants as item
-use Rattle.dv_objects.specs.Objects.{Objects, naming, naming_where, with_queue, queue_changed}
+use Rattle.dv_objects.specs.Objects.{Objects, naming, naming_where, with_queue, queue_changed, with_lock, lock_changed}
 use Rattle.dv_objects.specs.Pair.{Pair}
 use Rattle.dv_objects.specs.Refusals.{cancelled}
 use Rattle.dv_objects.specs.declared.canceller.Canceller.{Canceller}
 use Rattle.dv_objects.specs.declared.follow.Follow.TheVariants as follow
 use Rattle.dv_prims.specs.Queue.{Queue, may_put, put_to, got_from, receiver, withdrawn}
+use Rattle.dv_prims.specs.Tokens.{Semaphore, first_waiting, asked, released, forgotten}
 use Rattle.dv_script.specs.declared.work.Work.{Work}
 use Rattle.dv_loop.proofs.Kept.{Kind}
 use Rattle.dv_world.specs.World.{World, fired, fire, fire_then_swallow, fired_then_swallows, cancel, withdraw}
-use Rattle.dv_world.specs.World.{with_stop}
+use Rattle.dv_world.specs.World.{with_stop, ask, release, forget}
 use Rattle.dv_laws.proofs.Beside.{Beside, Arranged, resting, arranging, SameLocks, SameLoops, QueuePut, QueueGot}
-use Rattle.dv_laws.proofs.Beside.{QueueForgets}
-use Rattle.dv_laws.proofs.Calm.{Regular, WasCancelled, Calm, handed, handed_to, queue_beside}
+use Rattle.dv_laws.proofs.Beside.{QueueForgets, SameQueues, LockAsked, LockReleased, LockForgets}
+use Rattle.dv_laws.proofs.Calm.{Regular, WasCancelled, Calm, handed, handed_to, asking, granted, queue_beside}
+use Rattle.dv_laws.proofs.Calm.{lock_beside}
 use Rattle.dv_laws.proofs.Clocks.{Clocks, Leaves, Arranges, Stays}
 use Rattle.dv_laws.proofs.Steps.{telling_in, append_cases, pause_cases, make_cases, aside_cases, arrange_cases}
 use Rattle.dv_laws.proofs.Steps.{submit_cases, cancel_cases, unpause_cases, fire_cases, unless, unless_and}
-use Rattle.dv_laws.proofs.Steps.{put_into_cases, get_from_cases}
+use Rattle.dv_laws.proofs.Steps.{put_into_cases, get_from_cases, ask_cases, release_cases}
 
 -- a relation that holds of each change of a world with its entry, but for those by which a Deferred is settled and time
 -- goes on
@@ -101,6 +103,28 @@ queue_arranged k d (Some q) objects h = record {
   loops = SameLoops _ refl;
 }
 
+-- who waits no longer for a token of a lock
+lock_same : (l : ℕ) (change : Semaphore → Semaphore) (o : Option Semaphore) (objects : Objects)
+    → Arranges objects.clock (lock_changed l change o objects).clock
+lock_same l change None objects = Stays
+lock_same l change (Some s) objects = Stays
+
+lock_loops : (l : ℕ) (change : Semaphore → Semaphore) (o : Option Semaphore) (objects : Objects) → Regular objects.loops
+    → Regular (lock_changed l change o objects).loops
+lock_loops l change None objects r = r
+lock_loops l change (Some s) objects r = r
+
+lock_arranged : (l d : ℕ) (o : Option Semaphore) (objects : Objects) → slice_get objects.semaphores l ≡ o
+    → Arranged objects (lock_changed l (forgotten d) o objects)
+lock_arranged l d None objects h = arranging _ _ refl refl refl refl refl
+lock_arranged l d (Some s) objects h = record {
+  tasks = refl;
+  turns = refl;
+  locks = LockForgets l d s h;
+  queues = SameQueues _ refl;
+  loops = SameLoops _ refl;
+}
+
 module _ (R : World → World → Type 0) (k : Still R) where
   after_fire : (d : ℕ) (value : Value) (w : World) → R w (fire d value w).1
   unfolding fire
@@ -149,6 +173,34 @@ module _ (R : World → World → Type 0) (k : Still R) where
       (λ c. Leaves (refl, refl, refl)) (λ l. l)
       (queue_beside _ _ _ (QueueGot key d q g refl) refl refl refl refl refl refl) x
 
+  -- whoever is granted a token is fired with the name of its lock
+  after_granted : (o : Option ℕ) (name : List ℕ) (w : World) → R w (granted o name w)
+  after_granted None name w = k.stays w
+  after_granted (Some d) name w = after_fire d (Text name) w
+
+  after_ask : (l d : ℕ) (w : World) → R w (ask l d w)
+  after_ask l d w =
+      ask_cases w (R w) (k.stays w) (k.stops w) l d
+      (λ s x g. k.asides (entry.Acquire s.name d) (with_lock l (asked d s)) w refl
+      (λ c. Leaves (refl, refl, refl)) (λ r. r)
+      (lock_beside _ _ _ (LockAsked l d s g refl) refl refl refl refl refl refl) x)
+
+  after_release : (l : ℕ) (w : World) → R w (release l w)
+  after_release l w =
+      release_cases w (R w) (k.stays w) (k.stops w) l
+      (λ s x g u. k.asides (entry.Release s.name) (with_lock l (released s)) w refl
+      (λ c. Leaves (refl, refl, refl)) (λ r. r)
+      (lock_beside _ _ _ (LockReleased l s g u refl) refl refl refl refl refl refl) x)
+
+  after_forgetting : (l d : ℕ) (w : World) → R w (forget l d w)
+  after_forgetting l d w =
+      let change : Objects → Objects =
+      λ objects. lock_changed l (forgotten d) (slice_get objects.semaphores l) objects in
+      arrange_cases w (R w) (k.stays w) (k.stops w) change (k.arranges change w
+      (lock_same l (forgotten d) (slice_get w.objects.semaphores l) w.objects)
+      (lock_loops l (forgotten d) (slice_get w.objects.semaphores l) w.objects)
+      (lock_arranged l d (slice_get w.objects.semaphores l) w.objects refl))
+
   after_withdrawal : (key d : ℕ) (w : World) → R w (withdraw key d w)
   after_withdrawal key d w =
       let change : Objects → Objects =
@@ -191,6 +243,14 @@ module _ (R : World → World → Type 0) (k : Still R) where
         λ of d key w e. k.joins w (cancel of w).1 _ (after_cancel of w)
         (k.joins (cancel of w).1 (withdraw key d (cancel of w).1) _ (after_withdrawal key d (cancel of w).1)
         (after_fire d cancelled (withdraw key d (cancel of w).1)));
+    by_ask = λ l d s w g i. k.joins w (ask l d w) _ (after_ask l d w) (after_granted (asking d s) s.name (ask l d w));
+    by_release =
+        λ l s w g u.
+        k.joins w (release l w) _ (after_release l w) (after_granted (first_waiting s) s.name (release l w));
+    by_forget =
+        λ of d l w e. k.joins w (cancel of w).1 _ (after_cancel of w)
+        (k.joins (cancel of w).1 (forget l d (cancel of w).1) _ (after_forgetting l d (cancel of w).1)
+        (after_fire d cancelled (forget l d (cancel of w).1)));
     by_name =
         λ d name w.
         let e = entry.Name d (Some name) in

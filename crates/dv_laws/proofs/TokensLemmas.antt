@@ -20,11 +20,13 @@ use Rattle.dv_prims.specs.Tokens.{Semaphore, new_semaphore, is_unheld, has_free,
 use Rattle.dv_prims.specs.Tokens.{forgotten, without}
 use Rattle.dv_script.specs.declared.script.Script.{Script}
 use Rattle.dv_world.specs.World.{World}
-use Rattle.dv_laws.specs.Tokens.{Unheld, holding_of, asks_by, releases_by, asks, releases, TokensAreAskedFor}
+use Rattle.dv_laws.specs.Tokens.{Unheld, MakesTokens, holding_of, asks_by, releases_by, asks, releases}
+use Rattle.dv_laws.specs.Tokens.{TokensAreAskedFor}
 use Rattle.dv_laws.specs.Tokens.{AllAreHeldBeforeAnyWaits}
 use Rattle.dv_laws.specs.Places.{AtEachPlace}
 use Rattle.dv_laws.proofs.At.{places_on, no_places}
-use Rattle.dv_laws.proofs.Beside.{Locks, LocksRest, LockMade, LockAsked, LockReleased, LocksKept, SameLocks}
+use Rattle.dv_laws.proofs.Beside.{Locks, LocksRest, LockMade, SemaphoreMade, LockAsked, LockReleased, LocksKept}
+use Rattle.dv_laws.proofs.Beside.{SameLocks}
 use Rattle.dv_laws.proofs.Beside.{LockForgets}
 use Rattle.dv_laws.proofs.ReadBackLemmas.{get_set}
 use Rattle.dv_laws.proofs.Still.{Still, calm}
@@ -60,15 +62,15 @@ same_by : (c : Bool) (x y : ℕ) → y ≤ x → cond c y 0 ≤ cond c x 0
 same_by true x y h = omega (arith, h)
 same_by false x y h = omega arith
 
-record Asked (s t : Semaphore) : Type 0 where
+pub record Asked (s t : Semaphore) : Type 0 where
   named : t.name ≡ s.name
   more : holders t ≤ holders s + 1
-  gives : GivesAllBeforeAnyWaits s → GivesAllBeforeAnyWaits t
+  pub gives : GivesAllBeforeAnyWaits s → GivesAllBeforeAnyWaits t
 
-not_below : (a b : ℕ) → nat_lt a b ≡ false → b ≤ a
+pub not_below : (a b : ℕ) → nat_lt a b ≡ false → b ≤ a
 not_below a b h = grind (arith, nat_tests)
 
-asked_by : (b : Bool) (d : ℕ) (s : Semaphore) → has_free s ≡ b
+pub asked_by : (b : Bool) (d : ℕ) (s : Semaphore) → has_free s ≡ b
     → Asked s (if b then record s { given = s.given + 1 } else record s { waiting = s.waiting ++ d ∷ [] })
 asked_by true d s e =
     let free : s.given < s.tokens = ltb-true s.given s.tokens e in
@@ -85,18 +87,18 @@ asked_by false d s e =
       gives = λ g. (g.0, λ h. omega (arith, full, g.0));
     }
 
-is_asked : (d : ℕ) (s : Semaphore) → Asked s (asked d s)
+pub is_asked : (d : ℕ) (s : Semaphore) → Asked s (asked d s)
 is_asked d s = asked_by (has_free s) d s refl
 
-record Released (s t : Semaphore) : Type 0 where
+pub record Released (s t : Semaphore) : Type 0 where
   named : t.name ≡ s.name
   less : holders t + 1 ≤ holders s
-  gives : GivesAllBeforeAnyWaits s → GivesAllBeforeAnyWaits t
+  pub gives : GivesAllBeforeAnyWaits s → GivesAllBeforeAnyWaits t
 
-some_given : (n : ℕ) → nat_eq n 0 ≡ false → 1 ≤ n
+pub some_given : (n : ℕ) → nat_eq n 0 ≡ false → 1 ≤ n
 some_given n h = grind (arith, nat_tests)
 
-released_by : (ws : List ℕ) (s : Semaphore) → s.waiting ≡ ws → is_unheld s ≡ false → Released s (released_to ws s)
+pub released_by : (ws : List ℕ) (s : Semaphore) → s.waiting ≡ ws → is_unheld s ≡ false → Released s (released_to ws s)
 released_by [] s e u =
     let none : length s.waiting ≡ 0 = ap length e in
     let some : 1 ≤ s.given = some_given s.given u in
@@ -109,7 +111,7 @@ released_by (first ∷ rest) s e u =
     let more : length s.waiting ≡ length (first ∷ rest) = ap length e in
     record { named = refl; less = omega (arith, more); gives = λ g. (g.0, λ h. g.1 (omega (arith, more))) }
 
-is_released : (s : Semaphore) → is_unheld s ≡ false → Released s (released s)
+pub is_released : (s : Semaphore) → is_unheld s ≡ false → Released s (released s)
 is_released s u = released_by s.waiting s refl u
 
 -- one that waits no longer
@@ -118,23 +120,24 @@ shorter_by : (b : Bool) (w : ℕ) (ws rest : List ℕ) → length rest ≤ lengt
 shorter_by true w ws rest h = omega arith
 shorter_by false w ws rest h = omega (arith, h)
 
-shorter : (d : ℕ) (ws : List ℕ) → length (without d ws) ≤ length ws
+pub shorter : (d : ℕ) (ws : List ℕ) → length (without d ws) ≤ length ws
 shorter d [] = omega arith
 shorter d (w ∷ ws) = shorter_by (nat_eq d w) w ws (remove_key (nat_eq d) ws) (shorter d ws)
 
-forgotten_gives : (d : ℕ) (s : Semaphore) → GivesAllBeforeAnyWaits s → GivesAllBeforeAnyWaits (forgotten d s)
+pub forgotten_gives : (d : ℕ) (s : Semaphore) → GivesAllBeforeAnyWaits s → GivesAllBeforeAnyWaits (forgotten d s)
 forgotten_gives d s g = (g.0, λ h. g.1 (omega (arith, shorter d s.waiting, h)))
 
 -- all locks
-record Sound (locks : List Semaphore) : Type 0 where
-  each : (l : ℕ) (s : Semaphore) → slice_get locks l ≡ Some s → GivesAllBeforeAnyWaits s
+pub record Sound (locks : List Semaphore) : Type 0 where
+  pub each : (l : ℕ) (s : Semaphore) → slice_get locks l ≡ Some s → GivesAllBeforeAnyWaits s
 
 set_by : (b : Bool) (y s : Semaphore) (o : Option Semaphore) → GivesAllBeforeAnyWaits y
     → (o ≡ Some s → GivesAllBeforeAnyWaits s) → cond b (Some y) o ≡ Some s → GivesAllBeforeAnyWaits s
 set_by true y s o h k q = let same : y ≡ s = cc in subst (λ (x : Semaphore). GivesAllBeforeAnyWaits x) same h
 set_by false y s o h k q = k q
 
-sound_set : (l : ℕ) (s y : Semaphore) (locks : List Semaphore) → slice_get locks l ≡ Some s → GivesAllBeforeAnyWaits y
+pub sound_set : (l : ℕ) (s y : Semaphore) (locks : List Semaphore) → slice_get locks l ≡ Some s
+    → GivesAllBeforeAnyWaits y
     → Sound locks → Sound (slice_set locks l y)
 sound_set l s y locks h g k = record {
   each = λ n z q. set_by (nat_eq l n) y z (slice_get locks n) g (k.each n z) (sym (get_set locks l n s y h) ∙ q);
@@ -147,6 +150,12 @@ pushed_by zero y s [] h k q = let same : y ≡ s = cc in subst (λ (x : Semaphor
 pushed_by (suc n) y s [] h k q = absurd cc
 pushed_by zero y s (c ∷ locks) h k q = k 0 s q
 pushed_by (suc n) y s (c ∷ locks) h k q = pushed_by n y s locks h (λ l z r. k (suc l) z r) q
+
+pub sound_push : (name : List ℕ) (tokens : ℕ) (locks : List Semaphore) → Sound locks
+    → Sound (locks ++ new_semaphore name tokens ∷ [])
+sound_push name tokens locks k =
+    let s = new_semaphore name tokens in
+    record { each = λ l x q. pushed_by l s x locks (omega arith, λ h. absurd (omega (arith, h))) k.each q }
 
 -- 2. What is logged of locks.
 
@@ -184,13 +193,13 @@ rests name e old new entries a p k =
     (subst (λ (locks : List Semaphore). Sound locks) (sym p) k.sound)
 
 makes : (name : List ℕ) (e : Entry) (made : List ℕ) (tokens : ℕ) (old : List Semaphore) (entries : List Entry)
-    → holding_of e ≡ Unheld → Held name old entries
+    → holding_of e ≡ MakesTokens made tokens → Held name old entries
     → Held name (old ++ new_semaphore made tokens ∷ []) (entries ++ e ∷ [])
 makes name e made tokens old entries a k =
     let s = new_semaphore made tokens in
     counts name e old (old ++ s ∷ []) entries k (omega
     (arith, sum_by_push (held_of name) old s, none (bytes_eq made name), ap (releases_by name) a, ap (asks_by name) a))
-    (record { each = λ l x q. pushed_by l s x old (omega arith, λ h. absurd (omega (arith, h))) k.sound.each q })
+    (sound_push made tokens old k.sound)
   where
     none : (b : Bool) → cond {A = ℕ} b 0 0 ≡ 0
     none true = refl
@@ -229,7 +238,9 @@ releases_one name l s old entries g u k =
 locked : (name : List ℕ) (e : Entry) (old new : List Semaphore) (entries : List Entry) → Locks e old new
     → Held name old entries → Held name new (entries ++ e ∷ [])
 locked name e old new entries (LocksRest other a p) k = rests name e old other entries a p k
-locked name e old new entries (LockMade made tokens a) k = makes name e made tokens old entries a k
+locked name e old new entries (LockMade made q) k = makes name e made 1 old entries (ap holding_of q) k
+locked name e old new entries (SemaphoreMade made tokens q) k =
+    makes name e made tokens old entries (ap holding_of q) k
 locked name e old new entries (LockAsked l d s g q) k =
     of_entry name e _ _ entries q (asks_for name l d s old entries g k)
 locked name e old new entries (LockReleased l s g u q) k =

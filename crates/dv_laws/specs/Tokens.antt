@@ -12,9 +12,10 @@ use Rattle.dv_engine.specs.Report.{Reports}
 use Rattle.dv_engine.specs.declared.report.Report.{Report}
 use Rattle.dv_laws.specs.Places.{AtEachPlace}
 
--- nothing of a token; or that one of a lock is asked for, or released
+-- nothing of a token; or that a lock is made, which has so many; or that one of a lock is asked for, or released
 pub data Holding : Type 0 where
   Unheld : Holding
+  MakesTokens : (lock : List ℕ) (tokens : ℕ) → Holding
   AsksOf : (lock : List ℕ) → Holding
   ReleasesOf : (lock : List ℕ) → Holding
 
@@ -36,8 +37,8 @@ holding_of (entry.Unpause id) = Unheld
 holding_of (entry.Cancel id) = Unheld
 holding_of (entry.Note text) = Unheld
 holding_of (entry.Unhandled failure) = Unheld
-holding_of (entry.Lock name) = Unheld
-holding_of (entry.Semaphore name tokens) = Unheld
+holding_of (entry.Lock name) = MakesTokens name 1
+holding_of (entry.Semaphore name tokens) = MakesTokens name tokens
 holding_of (entry.Acquire name id) = AsksOf name
 holding_of (entry.Release name) = ReleasesOf name
 holding_of (entry.Queue name most_stored most_waiting) = Unheld
@@ -75,11 +76,13 @@ holding_of (entry.Units units) = Unheld
 -- it counts one where it is that a token of a lock of this name is asked for, or released
 abbrev pub asks_by : List ℕ → Holding → ℕ
 asks_by name Unheld = 0
+asks_by name (MakesTokens lock tokens) = 0
 asks_by name (AsksOf lock) = if bytes_eq lock name then 1 else 0
 asks_by name (ReleasesOf lock) = 0
 
 abbrev pub releases_by : List ℕ → Holding → ℕ
 releases_by name Unheld = 0
+releases_by name (MakesTokens lock tokens) = 0
 releases_by name (AsksOf lock) = 0
 releases_by name (ReleasesOf lock) = if bytes_eq lock name then 1 else 0
 

@@ -2,6 +2,7 @@
 
 ghost use Rattle.dv_laws.specs.Again.{OnlyTheNextFiringIsSwallowed};
 ghost use Rattle.dv_laws.specs.Calls.{CallsRunInOrder, CallsRunOnceInTime};
+ghost use Rattle.dv_laws.specs.Granted.{LocksServeInOrder, NobodyWaitsForAFreeToken};
 ghost use Rattle.dv_laws.specs.HandOvers.{ValuesAreHandedOverInTurn};
 ghost use Rattle.dv_laws.specs.Loops.{LoopsTurnAtIntervals};
 ghost use Rattle.dv_laws.specs.OneAtATime.{EachPairIsUsedOnce, SidesRunOneAtATime};
@@ -86,6 +87,17 @@ pub fn tasks_end()
 pub fn tokens_are_held()
     ensures asked { TokensAreAskedFor }
     ensures held { AllAreHeldBeforeAnyWaits }
+{}
+
+/// In a run a lock or a semaphore whose name is given once grants its tokens to those that ask in
+/// the order in which they ask. Each is granted one at once if one is free, and else waits, last. A
+/// token is released only if one is held; it goes to the first that waits, or is free. Who is
+/// granted one is fired with the name of the lock, unless other code has fired it. One that waits
+/// leaves exactly if a cancel fires it. By what was logged, a Deferred waits only if no token is
+/// free.
+pub fn locks_serve_in_order()
+    ensures order { LocksServeInOrder }
+    ensures full { NobodyWaitsForAFreeToken }
 {}
 
 /// In a run a queue stores no more values than it may. At its end, also where its journal is full,
