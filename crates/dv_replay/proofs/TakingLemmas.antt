@@ -2,7 +2,7 @@
 use Rattle.std.proofs.Common.{arith, ◌≡◌, ℕ, zero, suc, ◌+◌, ◌<◌, ◌≤◌, List, [], ◌∷◌, ◌++◌, ◌∙◌, OnOk, Result, Ok, Err}
 use Rattle.std.proofs.Common.{length, take, drop, slice_index_or, refl, sym, ap, subst, add-one, append_assoc}
 use Rattle.std.proofs.Math.Seq.{take-suc}
-use Rattle.dv_engine.specs.Engine.{Engine, ComesToDrain, Ends, Goes, IsPlain, IsStrange, IsWithin, MayTake, NoBatch}
+use Rattle.dv_engine.specs.Engine.{Engine, ReachesDrain, Ends, Goes, IsPlain, IsStrange, IsWithin, MayTake, NoBatch}
 use Rattle.dv_engine.specs.Engine.{Takes, phase_after}
 use Rattle.dv_engine.specs.declared.engine.Phase.{Phase}
 use Rattle.dv_engine.specs.declared.engine.Phase.TheVariants as phase
@@ -51,22 +51,22 @@ went_fits before after batches goes fit =
     fit_plain goes.event after.left batches goes.plain (subst (λ left. Fit left batches) goes.next fit)
 
 -- at a drain the next batch is there and short enough, and the others fit what is left
-drain_next : (most : ℕ) (before after : Engine) (batches : List Batch) (n : ℕ) → ComesToDrain most before after
+drain_next : (most : ℕ) (before after : Engine) (batches : List Batch) (n : ℕ) → ReachesDrain most before after
     → Fit before.left (drop n batches) → HasNext most after.left batches n
 drain_next most before after batches n comes fit =
     fit_drain most after.left batches n (subst (λ left. Fit left (drop n batches)) comes.next fit)
 
-pub drain_there : (most : ℕ) (before after : Engine) (batches : List Batch) (n : ℕ) → ComesToDrain most before after
+pub drain_there : (most : ℕ) (before after : Engine) (batches : List Batch) (n : ℕ) → ReachesDrain most before after
     → Fit before.left (drop n batches) → n < length batches
 drain_there most before after batches n comes fit = (drain_next most before after batches n comes fit).there
 
-pub drain_waits : (most : ℕ) (before after : Engine) (batches : List Batch) (n : ℕ) → ComesToDrain most before after
+pub drain_waits : (most : ℕ) (before after : Engine) (batches : List Batch) (n : ℕ) → ReachesDrain most before after
     → Fit before.left (drop n batches) → IsWithin after.phase (slice_index_or batches n [])
 drain_waits most before after batches n comes fit =
     subst (λ (p : Phase). IsWithin p (slice_index_or batches n [])) (sym (ap (λ (x : Engine). x.phase) comes.same))
     (drain_next most before after batches n comes fit).few
 
-pub drain_fits : (most : ℕ) (before after : Engine) (batches : List Batch) (n : ℕ) → ComesToDrain most before after
+pub drain_fits : (most : ℕ) (before after : Engine) (batches : List Batch) (n : ℕ) → ReachesDrain most before after
     → Fit before.left (drop n batches) → Fit after.left (drop (n + 1) batches)
 drain_fits most before after batches n comes fit =
     subst (λ m. Fit after.left (drop m batches)) (sym (add-one n))
