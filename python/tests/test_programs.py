@@ -32,7 +32,6 @@ from deferreds.twisted.telling import KINDS
 
 PROGRAMS = Path(__file__).resolve().parent.parent / "data" / "programs" / "awkward"
 
-DEEP = "bodies are nested too deep"
 TURNS = "a turn ran more than once, and did something else"
 
 #: the programs that are refused, and why; all others are recorded
@@ -45,11 +44,8 @@ REFUSED: Dict[str, str] = {
     "finalizer_meddles": MEDDLED,
     "finalizer_of_weak_reference": "a weak reference has a method of a Deferred as its callback",
     "gather_by_hand": "a gatherResults is fired by hand with a list that isn't shown in full",
-    "heartbeat": DEEP,
     "inline_drops": FINALIZED,
     "loop_of_other_values": TURNS,
-    "nested_inline": DEEP,
-    "poll_again": DEEP,
     "subclass_adds": CALLED,
 }
 
@@ -129,7 +125,7 @@ class Programs(unittest.TestCase):
                     self.assertTrue(reasons)
                 elif path.stem in REFUSED:
                     self.assertEqual(reasons, {REFUSED[path.stem]})
-                    places = [problem.place for problem in said.problems if problem.reason not in (DEEP, TURNS)]
+                    places = [problem.place for problem in said.problems if problem.reason != TURNS]
                     self.assertTrue(all(f"{path.stem}.py:" in place for place in places))
                 elif path.stem in BY_VERSION and reasons:
                     self.assertLessEqual(reasons, set(BY_VERSION[path.stem]))
