@@ -187,10 +187,14 @@ class Declared(Case):
         inside = [pointer for pointer in places if pointer.startswith("/bodies/0/1/do/0")]
         self.assertTrue(inside)
 
-    def test_what_needs_more_names_than_there_are(self) -> None:
-        said = recorded(beats(12_000))
-        self.assertIsNone(said.script)
-        self.assertEqual([problem.reason for problem in said.problems], ["bodies are nested too deep"])
+    def test_a_run_that_needs_more_names_than_there_are_is_cut(self) -> None:
+        said = recorded(beats(9_000))
+        self.assertEqual([problem.reason for problem in said.problems], ["the script needs more names of bodies than one may have"])
+        script = json.loads(said.text)
+        self.assertEqual((said.is_whole, len(script["bodies"])), (False, 256))
+        self.assertEqual(said.events, len(script["events"]))
+        self.assertEqual(run(said.text.encode()).output, said.output)
+        self.assertEqual(sum(line.startswith("call ") for line in said.whole_output.splitlines()), 9_000)
 
 
 class Ticks(Case):
