@@ -21,6 +21,7 @@ from deferreds.program import NotRun, built
 from deferreds.twisted.comparing import compared
 from deferreds.twisted.instruments import install
 from deferreds.twisted.programs import Answer, Once
+from deferreds.twisted.recording.bodies import deepest
 from deferreds.twisted.recording.hiding import CHOICES, SECRETS
 from deferreds.twisted.recording.inside import CALLED, FINALIZED, MEDDLED
 from deferreds.twisted.recording.programs import PrintingNotes
@@ -187,16 +188,17 @@ class Programs(unittest.TestCase):
         self.assertEqual([outcome for outcome in said.outcomes if " fail " in outcome], [])
         self.assert_right(record("awaited_failure", KINDS - {"inline"}).said)
 
-    def test_bodies_that_are_nested_too_deep_are_named_with_what_would_be_told_flat(self) -> None:
+    def test_the_deepest_body_is_found_with_what_would_be_told_flat(self) -> None:
         for name, place, kind in (
             ("nested_inline", r"^inline of descend_9_\d+$", "inline"),
             ("poll_again", r"^addCallback of read_13_1\d+$", None),
             ("heartbeat", r"^later of call_beat_13_1\d+$", "clock"),
         ):
             with self.subTest(program=name):
-                (problem,) = record(name).said.problems
-                self.assertRegex(problem.place, place)
-                self.assertEqual(problem.kind, kind)
+                found = deepest(record(name).said.actions)
+                assert found is not None
+                self.assertRegex(found.of, place)
+                self.assertEqual(found.kind, kind)
                 if kind is not None:
                     self.assert_right(record(name, KINDS - {kind}).said)
 
