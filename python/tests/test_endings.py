@@ -371,7 +371,7 @@ class InCalls(RecordingCase):
         self.assertEqual(ended.status, 0, ended.said)
         self.assert_goes_together("large_calls")
         made = [len(re.findall('fire #[0-9]+ ok \\["A', self.text(f"large_calls.{kind}"))) for kind in ("journal", "whole.journal")]
-        self.assertEqual(made, [5, 8])
+        self.assertEqual(made, [240, 320])
 
 
 class Limits(RecordingCase):
@@ -379,9 +379,8 @@ class Limits(RecordingCase):
 
     def test_the_script_is_of_the_longest_beginning(self) -> None:
         for words, reason, events in (
-            (("2200", "30", "1", "65"), "the script has more nodes than one may have", 3_543),
-            (("12", "190", "200", "65"), "the journal weighs more than a script's may", 11),
-            (("6", "190", "160", "1"), "the script is longer than one may be", 11),
+            (("5200", "190", "1", "65"), "the script has more nodes than one may have", 10_153),
+            (("270", "190", "200", "65"), "the journal weighs more than a script's may", 523),
         ):
             with self.subTest(reason=reason):
                 ended = self.record("-o", "run", "--view", "large.py", *words)

@@ -21,6 +21,7 @@ from deferreds.program import NotRun, built
 from deferreds.twisted.comparing import compared
 from deferreds.twisted.instruments import install
 from deferreds.twisted.programs import Answer, Once
+from deferreds.twisted.recording.bodies import deepest
 from deferreds.twisted.recording.hiding import CHOICES, SECRETS
 from deferreds.twisted.recording.inside import CALLED, FINALIZED, MEDDLED
 from deferreds.twisted.recording.programs import PrintingNotes
@@ -32,7 +33,6 @@ from deferreds.twisted.telling import KINDS
 
 PROGRAMS = Path(__file__).resolve().parent.parent / "data" / "programs" / "awkward"
 
-DEEP = "bodies are nested too deep"
 TURNS = "a turn ran more than once, and did something else"
 
 #: the programs that are refused, and why; all others are recorded
@@ -45,11 +45,8 @@ REFUSED: Dict[str, str] = {
     "finalizer_meddles": MEDDLED,
     "finalizer_of_weak_reference": "a weak reference has a method of a Deferred as its callback",
     "gather_by_hand": "a gatherResults is fired by hand with a list that isn't shown in full",
-    "heartbeat": DEEP,
     "inline_drops": FINALIZED,
     "loop_of_other_values": TURNS,
-    "nested_inline": DEEP,
-    "poll_again": DEEP,
     "subclass_adds": CALLED,
 }
 
@@ -129,7 +126,7 @@ class Programs(unittest.TestCase):
                     self.assertTrue(reasons)
                 elif path.stem in REFUSED:
                     self.assertEqual(reasons, {REFUSED[path.stem]})
-                    places = [problem.place for problem in said.problems if problem.reason not in (DEEP, TURNS)]
+                    places = [problem.place for problem in said.problems if problem.reason != TURNS]
                     self.assertTrue(all(f"{path.stem}.py:" in place for place in places))
                 elif path.stem in BY_VERSION and reasons:
                     self.assertLessEqual(reasons, set(BY_VERSION[path.stem]))
@@ -191,16 +188,17 @@ class Programs(unittest.TestCase):
         self.assertEqual([outcome for outcome in said.outcomes if " fail " in outcome], [])
         self.assert_right(record("awaited_failure", KINDS - {"inline"}).said)
 
-    def test_bodies_that_are_nested_too_deep_are_named_with_what_would_be_told_flat(self) -> None:
+    def test_the_deepest_body_is_found_with_what_would_be_told_flat(self) -> None:
         for name, place, kind in (
             ("nested_inline", r"^inline of descend_9_\d+$", "inline"),
             ("poll_again", r"^addCallback of read_13_1\d+$", None),
             ("heartbeat", r"^later of call_beat_13_1\d+$", "clock"),
         ):
             with self.subTest(program=name):
-                (problem,) = record(name).said.problems
-                self.assertRegex(problem.place, place)
-                self.assertEqual(problem.kind, kind)
+                found = deepest(record(name).said.actions)
+                assert found is not None
+                self.assertRegex(found.of, place)
+                self.assertEqual(found.kind, kind)
                 if kind is not None:
                     self.assert_right(record(name, KINDS - {kind}).said)
 

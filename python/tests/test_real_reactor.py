@@ -14,6 +14,8 @@ from typing import Any, List, Optional
 
 from deferreds.checkout import TOP
 from deferreds.twisted.programs import ours
+from deferreds.twisted.running import be_quiet
+from deferreds.twisted.running import run as run_script
 
 from .forked import environment, run
 
@@ -165,15 +167,21 @@ class RealReactor(unittest.TestCase):
     def test_a_deferred_that_two_threads_use_is_refused(self) -> None:
         self.assertIn("a Deferred of the program is used in another thread", self.refused("fired_in_a_thread"))
 
-    def test_ticks_by_the_wall_clock_are_refused(self) -> None:
-        self.assertIn("ticks of different numbers of steps (--plain cooperator ", self.refused("ticks_by_the_clock"))
+    def test_ticks_by_the_wall_clock_have_their_numbers_of_steps(self) -> None:
+        recording = Recording("ticks_by_the_clock")
+        be_quiet()
+        self.assertEqual(recording.status, 0, recording.said)
+        self.assertEqual(run_script(recording.script.encode()).output, recording.journal)
+        events = json.loads(recording.script)["events"]
+        changes = [place for place, event in enumerate(events) if event[0] == "units"]
+        self.assertTrue(changes)
+        self.assertEqual({events[place + 1][0] for place in changes}, {"advance"})
 
-    def test_bodies_that_nest_are_told_or_refused(self) -> None:
-        recording = Recording("piece_by_piece")
-        if recording.status == 0:
-            self.assertEqual(ours().answer(recording.script).output, recording.journal)
-        else:
-            self.assertIn("bodies are nested too deep", recording.said)
+    def test_bodies_that_nest_are_told(self) -> None:
+        recording = self.recorded("piece_by_piece")
+        self.assertIn('"bodies":[[', recording.script)
+        self.assertTrue(any(line.startswith("body ") for line in recording.lines))
+        self.recorded("poll_by_callbacks")
 
     def test_a_coroutine_that_is_cancelled_is_told_to_be_otherwise(self) -> None:
         recording = Recording("cancelled_handler")

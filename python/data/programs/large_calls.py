@@ -1,10 +1,11 @@
-"""Has eight delayed calls come on the real reactor, one after the other, each of which makes a Deferred with a large value."""
+"""Has eight delayed calls come on the real reactor, one after the other, each of which makes forty Deferreds with a large value."""
 
 from twisted.internet import defer, reactor
 
 
 def make(left):
-    defer.succeed(["A" * 200] * 190)
+    for _ in range(40):
+        defer.succeed(["A" * 200] * 190)
     if left == 0:
         reactor.stop()
     else:

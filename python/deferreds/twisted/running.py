@@ -21,7 +21,7 @@ from .instruments import install, locks, queues
 from .instruments.clock import run_due
 from .profile import Entry
 from .script import Script, read
-from .telling import Action, Line, Observer, Part, Record, Thing, Time, lines_of, weight
+from .telling import Action, Line, Observer, Part, Record, Stopped, Thing, Time, lines_of, weight
 from .texts import Outcome, Text, compact, weight_of
 
 #: a caller's post, by the numbers of the caller and of the post
@@ -32,10 +32,6 @@ _Failure: Callable[..., Failure] = Failure
 
 RECURSION = 40_000
 STACK = 512 * 1024 * 1024
-
-
-class Stopped(BaseException):
-    """The journal's limit is reached: nothing happens any more."""
 
 
 class Run:

@@ -16,7 +16,8 @@ from twisted.internet.defer import Deferred
 from .classes import BUILT_IN
 from .known import UnknownTwisted, version
 from .recording.reactor import VirtualReactor, in_place_of_the_real
-from .running import Player, Stopped, Teller, rendered
+from .running import Player, Teller, rendered
+from .telling import Stopped
 from .script import read
 from .telling import Record, lines_of
 

@@ -141,6 +141,10 @@ def know_attributes(first: object, names: Iterable[str]) -> None:
         setattr(first, name, getattr(first, name))
 
 
+class Stopped(BaseException):
+    """The journal's limit is reached: nothing happens any more."""
+
+
 class Record:
     """What is known of a Deferred. It doesn't keep that alive."""
 

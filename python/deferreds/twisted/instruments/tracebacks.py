@@ -7,11 +7,14 @@ from __future__ import annotations
 
 import functools
 import os
+import sys
 import traceback
 from types import TracebackType
 from typing import Any, Callable, Iterable, List, Optional, Tuple
 
 from twisted.python.failure import Failure
+
+from ..telling import Stopped
 
 #: the folder of what watches Twisted, as code objects name it
 _WATCHING = os.path.dirname(os.path.dirname(__file__)) + os.sep
@@ -51,6 +54,11 @@ def _unlink(trace: Optional[TracebackType]) -> None:
 
 @functools.wraps(_init)
 def _instrumented_init(self: Any, *args: Any, **kwargs: Any) -> None:
+    raised = sys.exc_info()[1]
+    if not args and isinstance(raised, Stopped):
+        # where a run ends inside a thousand calls, Twisted catches that in each of them, and would read the whole stack each time
+        _init(self, raised.with_traceback(None), type(raised))
+        return
     _init(self, *args, **kwargs)
     if isinstance(self.value, BaseException):
         _unlink(getattr(self, "tb", None))

@@ -24,6 +24,7 @@ class Declared:
 
     def __init__(self) -> None:
         self.pairs: List[Pair] = []
+        self._bodies: List[Body] = []
         #: whether bodies that are too tall are declared
         self.is_on = False
         #: by the numbers of Python for arrays and objects of the script, how deep others lie in them
@@ -56,4 +57,18 @@ class Declared:
         """Declares a body by a name like that of an object, and gives the name."""
         body.name = f"{after[:_LONGEST]}_{len(self.pairs) + 1}"
         self.pairs.append([body.name, said])
+        self._bodies.append(body)
         return body.name
+
+    def most_ended(self) -> int:
+        """How many events may have ended at most, so that no more bodies are declared than may be."""
+        began = sorted(body.runs[0].began for body in self._bodies)
+        return began[grammar.MOST_BODIES] - 1
+
+    def forget(self) -> None:
+        """Declares nothing any more."""
+        for body in self._bodies:
+            body.name = body.helper = None
+        self.pairs.clear()
+        self._bodies.clear()
+        self.begin_event(False)

@@ -6,8 +6,9 @@ A run may be longer than a script can be, or end in the midst of an event. Then 
 from __future__ import annotations
 
 import math
+from bisect import bisect_left
 from fractions import Fraction
-from itertools import accumulate, compress
+from itertools import accumulate, compress, count
 from typing import Any, Dict, Iterator, List, Optional, Sequence, Set, Tuple, Union
 
 from ...language import LANGUAGE
@@ -54,9 +55,10 @@ class Said:
         self._ended = len(recorder.events) if ended is None else min(ended, len(recorder.events))
         #: what number of steps ticks have at first; None, if a script can't say what they have
         self._tick_units: Optional[int] = None
-        #: how many events the script has
-        self.events = self._settle()
+        self._settle()
         self._change_units()
+        #: how many events the script has
+        self.events = self._count_events()
         self._alike = Alike(self._runs)
         #: the bodies that the script declares, and those of the event that is being said, by their numbers of Python
         self._declared = Declared()
@@ -70,6 +72,8 @@ class Said:
         self._number()
         self._find_scale()
         self.script = self._script()
+        while len(self._declared.pairs) > grammar.MOST_BODIES and self.script is not None:
+            self.script = self._script_of_fewer()
         if self._declared.pairs:
             self._number()
         self.journal: List[str] = []
@@ -137,22 +141,26 @@ class Said:
 
     # numbers and times
 
-    def _settle(self) -> int:
-        """Has the times of a real reactor be set, leaves out the advances that aren't told, and gives how many events have ended.
-
-        What an advance that isn't recorded runs is run by the one that is recorded before it, which ends with it.
-        """
+    def _settle(self) -> None:
+        """Has the times of a real reactor be set, and leaves out the advances that aren't told."""
         recorder = self._recorder
         conflict = None if recorder.pace is None else recorder.pace.settle()
         if conflict is not None:
             self._problem(conflict.reason, conflict.kind, conflict.place)
-        told = [not isinstance(action, Advance) or action.is_told for action in recorder.events]
-        #: the events of the whole run that are recorded
+        told = self._told = [not isinstance(action, Advance) or action.is_told for action in recorder.events]
+        #: the events of the whole run that are told, before which parts of lines each begins, and its place among those of the recorder
         self.actions = list(compress(recorder.events, told))
         self._begins = list(compress(recorder.begins, told))
-        while self._ended < len(told) and not told[self._ended]:
+        self._places = list(compress(count(), told))
+
+    def _count_events(self) -> int:
+        """How many events have ended that are told.
+
+        What an advance that isn't told runs is run by the one that is told before it, which ends with it.
+        """
+        while self._ended < len(self._told) and not self._told[self._ended]:
             self._ended -= 1
-        return sum(told[: self._ended])
+        return bisect_left(self._places, self._ended)
 
     def _change_units(self) -> None:
         """Has ticks have as many steps as they had: each change is an event of its own, before the advance in which its first tick runs."""
@@ -167,14 +175,17 @@ class Said:
         self._tick_units = changes[0].units if changes else grammar.UNITS[-1]
         if not places:
             return
-        self.events += sum(place < self.events for place in places)
-        actions, begins, self.actions, self._begins = self.actions, self._begins, [], []
-        for place, (action, begin) in enumerate(zip(actions, begins)):
+        before = list(zip(self.actions, self._begins, self._places))
+        self.actions, self._begins, self._places = [], [], []
+        for place, (action, begin, at) in enumerate(before):
             if place in places:
-                self.actions.append(Action(["units", places[place]]))
-                self._begins.append(begin)
-            self.actions.append(action)
-            self._begins.append(begin)
+                self._add_event(Action(["units", places[place]]), begin, at)
+            self._add_event(action, begin, at)
+
+    def _add_event(self, action: Action, begin: int, place: int) -> None:
+        self.actions.append(action)
+        self._begins.append(begin)
+        self._places.append(place)
 
     def _name(self) -> None:
         """Names the Deferreds of the program by where they were made, in the order in which they were."""
@@ -294,6 +305,18 @@ class Said:
         script["events"] = events
         return script
 
+    def _script_of_fewer(self) -> Optional[Dict[str, Any]]:
+        """The script of the beginning that needs no more names of bodies than a script may have."""
+        if not self.too_large:
+            self.too_large.append(Problem("the script needs more names of bodies than one may have", "", None))
+            self.problems += self.too_large
+        self._ended = self._declared.most_ended() + self._recorder.preceding
+        self.events = self._count_events()
+        self._declared.forget()
+        self.acted.clear()
+        self._chains.clear()
+        return self._script()
+
     def _finish(self, script: Dict[str, Any]) -> None:
         """Sets the limit and the version of a script, and says it as JSON."""
         self._set_limit(script)
@@ -355,7 +378,7 @@ class Said:
         words = self._with_bodies(action, bodies, False)
         if self._declared.height(words) > MOST_OF_EVENT:
             words = self._with_bodies(action, bodies, True)
-        if self._declared.height(words) > MOST_OF_EVENT or len(self._declared.pairs) > grammar.MOST_BODIES:
+        if self._declared.height(words) > MOST_OF_EVENT:
             self._refuse_depth()
             raise CannotSay
         return words
@@ -520,8 +543,9 @@ class Said:
             self._problem("the script has more classes than one may have")
         reasons = self._too_large(script)
         if reasons:
-            self.too_large = [Problem(reason, "", None) for reason in reasons]
-            self.problems += self.too_large
+            too_large = [Problem(reason, "", None) for reason in reasons]
+            self.too_large += too_large
+            self.problems += too_large
             self._cut(script)
 
     def _too_large(self, script: Dict[str, Any]) -> List[str]:
