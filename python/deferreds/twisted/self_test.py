@@ -17,9 +17,8 @@ from .classes import BUILT_IN
 from .known import UnknownTwisted, version
 from .recording.reactor import VirtualReactor, in_place_of_the_real
 from .running import Player, Teller, rendered
-from .telling import Stopped
 from .script import read
-from .telling import Record, lines_of
+from .telling import Record, Stopped, lines_of
 
 #: bodies that await, one of which is cancelled, and an object of each other kind
 SCRIPT = b"""
