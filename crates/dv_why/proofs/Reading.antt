@@ -11,7 +11,7 @@ use Rattle.std.proofs.lemmas.Map.Text.{is_eq-slice_cmp}
 use Rattle.std.proofs.lemmas.Slice.Eq.{bytes_eq-Decides}
 use Rattle.serde_json.specs.Data.{Data, string, array, object, Items, no_items, item, Members, no_members, member}
 use Rattle.serde_json.specs.Data.{depth}
-use Rattle.serde_json.specs.Find.{at, get_item, get_member, as_str}
+use Rattle.serde_json.specs.Find.{as_object, as_str, at, get_item, get_member}
 use Rattle.dv_value.specs.declared.classes.Class.{Class}
 use Rattle.dv_script.specs.declared.body.End.{End}
 use Rattle.dv_script.specs.declared.body.End.TheVariants.{Return, Pass, Plus, Raise, Trap, Wait, Run, Throw}
@@ -575,6 +575,12 @@ last_of : (v n : ℕ) (table : List Class) (o : Option Data)
 last_of v n table None h = (Pass, refl)
 last_of v n table (Some d) h = end_fine v n table d (h d refl)
 
+-- what stands at the place of a body is an object, or a name in a version that has bodies by name
+shaped : (v : ℕ) {n : ℕ} (since : ℕ) (d : Data) → IsFine v n (want.Keyed (keyed.Body since)) d
+    → (is_some (as_object d) || (is_some (as_str d) && nat_le BODIES_SINCE v)) ≡ true
+shaped v since d h =
+    (and_parts (nat_le since v) (is_some (as_object d) || (is_some (as_str d) && nat_le BODIES_SINCE v)) (fits_fine h)).1
+
 body_of : (v n : ℕ) (table : List Class) → AreRead v n table → {since : ℕ} (d : Data)
     → IsFine v (suc n) (want.Keyed (keyed.Body since)) d → (b : Body) × IsBody table d b
 body_of v n table r {since} (object ms) h =
@@ -582,7 +588,8 @@ body_of v n table r {since} (object ms) h =
     let x = last_of v n table (get_member (codes "end") ms) (λ e is. under (codes "end") h refl is) in
     (record { actions = xs.0; end = x.0 }, body ms xs.0 x.0 (body_only v since ms h.suit) xs.1 x.1)
 body_of v n table r {since} (string x) h = (running x, body_by_name x)
-body_of v n table r {since} d h = let fit : fits v (want.Keyed (keyed.Body since)) d ≡ true = fits_fine h in cc
+body_of v n table r {since} d h =
+    let shape : (is_some (as_object d) || (is_some (as_str d) && nat_le BODIES_SINCE v)) ≡ true = shaped v since d h in cc
 
 -- the arguments of a word read as those of a statement
 abbrev IsStatementRead : ℕ → ℕ → List Class → List ℕ → List Want → Type 0
@@ -637,7 +644,8 @@ no_body : (v : ℕ) (table : List Class) {since : ℕ} (d : Data) → IsFine v 0
     → (b : Body) × IsBody table d b
 no_body v table {since} (object ms) h = let deep : depth (object ms) ≤ 0 = h.deep in absurd (omega (arith, deep))
 no_body v table {since} (string x) h = (running x, body_by_name x)
-no_body v table {since} d h = let fit : fits v (want.Keyed (keyed.Body since)) d ≡ true = fits_fine h in cc
+no_body v table {since} d h =
+    let shape : (is_some (as_object d) || (is_some (as_str d) && nat_le BODIES_SINCE v)) ≡ true = shaped v since d h in cc
 
 no_statement : (v : ℕ) (table : List Class) (d : Data) → IsFine v 0 (want.Call call_of.Statement) d
     → (s : Statement) × IsStatement table d s
