@@ -14,7 +14,7 @@ import os
 import sys
 import tempfile
 from collections.abc import Iterator, Mapping, Sequence
-from dataclasses import dataclass
+from dataclasses import dataclass, replace
 from pathlib import Path
 
 from bench import TOP, built_program
@@ -25,6 +25,8 @@ from workloads import WORKLOADS, Workload
 #: the workloads whose journals have a line for each step of what ordinary programs do
 _NAMES = ("callbacks", "inline bodies", "locks", "queues", "time-outs")
 _LINES = (1_100, 20_000, 100_000)
+#: a script of version 3 may have a journal of this weight, and be that long
+_LIMIT = 10_000_000
 
 
 @dataclass(frozen=True)
@@ -39,7 +41,7 @@ class Run:
 def run_of(workload: Workload, lines: int, folder: Path, program: Path) -> Run:
     """A run of about so many lines, whose script and output are written into the folder."""
     size = lines * workload.size // workload.make(workload.size).entries
-    made = workload.make(size)
+    made = replace(workload.make(size), version=3, limit=_LIMIT)
     script, facts = folder / f"{workload.name}.json", folder / f"{workload.name}.jsonl"
     script.write_bytes(made.source)
     commands = {

@@ -28,11 +28,13 @@ class Script:
     #: whether it fills its journal, so that the run stops there
     stops: bool = False
     keys: Mapping[str, Json] = field(default_factory=dict)
+    #: the version of the language
+    version: int = 1
 
     @property
     def source(self) -> bytes:
         """The script as the program reads it."""
-        root = {"version": 1, "limit": self.limit, "events": self.events, **self.keys}
+        root = {"version": self.version, "limit": self.limit, "events": self.events, **self.keys}
         return json.dumps(root, separators=(",", ":"), ensure_ascii=False).encode()
 
     @property

@@ -185,9 +185,9 @@ class Forms(unittest.TestCase):
                 self.assertLessEqual(read.elements, _ELEMENTS - {"script", "input"})
                 self.assertLessEqual(read.attributes, _ATTRIBUTES | {"colspan"})
                 self.assertEqual((read.links, read.ids), (set(), []))
-                self.assertEqual(set(texts._UNSEEN.findall(page)), {"\n"})
+                self.assertEqual(set(texts.unseen().findall(page)), {"\n"})
                 self.assertNotIn("script-src", read.policy)
-                self.assertFalse(texts._UNSEEN.search("".join(text_lines(compared))))
+                self.assertFalse(texts.unseen().search("".join(text_lines(compared))))
 
     def test_long_runs_are_shown_in_part(self) -> None:
         long, short = samples.long(12_000), run_of("note 1")

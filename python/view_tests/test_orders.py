@@ -283,7 +283,7 @@ class OfPage(unittest.TestCase):
         read = Read(page)
         self.assertLessEqual(read.elements, _ELEMENTS | {"iframe", "h3", "code", "noscript", "b"})
         self.assertLessEqual(read.attributes, _ATTRIBUTES | {"srcdoc", "data-o"})
-        self.assertEqual(set(texts._UNSEEN.findall(page)), {"\n"})
+        self.assertEqual(set(texts.unseen().findall(page)), {"\n"})
         self.assertTrue(all(re.fullmatch("#?(order-[A-Z]|[a-z]+)", name) for name in read.values["id"] | read.values["href"]))
         for text in read.values["srcdoc"]:
             inner = Read(text)

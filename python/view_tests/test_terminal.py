@@ -10,7 +10,7 @@ from deferreds.view.facts import read_facts
 from deferreds.view.run import Run, run_of_facts, run_of_journal
 from deferreds.view.scripts import Script
 from deferreds.view.terminal import Terminal
-from deferreds.view.texts import _UNSEEN
+from deferreds.view.texts import unseen
 
 from . import samples
 from .stand_in import told
@@ -77,7 +77,7 @@ class Shown(unittest.TestCase):
     def test_hostile_texts_can_t_do_anything(self) -> None:
         for color in (False, True):
             for line in Terminal(samples.hostile(), color).lines():
-                self.assertIsNone(_UNSEEN.search(_COLOR.sub("", line) if color else line), line[:100])
+                self.assertIsNone(unseen().search(_COLOR.sub("", line) if color else line), line[:100])
 
     def test_color_adds_nothing_else(self) -> None:
         run = samples.recorded()

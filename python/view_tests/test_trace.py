@@ -9,7 +9,7 @@ from typing import Any, Dict, Iterator, List, Tuple
 from deferreds.view.facts import read_facts
 from deferreds.view.run import Run, run_of_facts, run_of_journal
 from deferreds.view.scripts import Script
-from deferreds.view.texts import _UNSEEN
+from deferreds.view.texts import unseen
 from deferreds.view.trace import EVENTS, FIRST, Trace
 
 from . import samples
@@ -189,7 +189,7 @@ class Content(unittest.TestCase):
         self.assertEqual(list(broken(trace.text())), [])
 
     def test_no_unseen_character_is_in_it(self) -> None:
-        self.assertEqual(set(_UNSEEN.findall(Trace(samples.hostile()).text())), {"\n"})
+        self.assertEqual(set(unseen().findall(Trace(samples.hostile()).text())), {"\n"})
 
 
 if __name__ == "__main__":

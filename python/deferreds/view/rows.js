@@ -69,7 +69,8 @@ function layChunk(chunk) {
 }
 // the parts of a chunk's pictures that stand beside its rows are made once it is near what is seen
 var seen = new IntersectionObserver(function (entries) {
-  entries.forEach(function (entry) { if (entry.isIntersecting) cut(chunkOf.get(entry.target)); });
+  // (what was seen of lines that are gone meanwhile may come late)
+  entries.forEach(function (entry) { if (entry.isIntersecting && chunkOf.has(entry.target)) cut(chunkOf.get(entry.target)); });
 }, { rootMargin: "1500px 0px" });
 function cut(chunk) {
   if (chunk.parts.length || !chunk.node.classList.contains("cut")) return;

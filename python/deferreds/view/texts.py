@@ -27,9 +27,14 @@ def visible(text: str) -> str:
     """The text, in which each character that isn't seen is shown as an escape, as `\\u202e`."""
     if text.isascii() and text.isprintable():
         return text
+    return unseen().sub(_escape, text)
+
+
+def unseen() -> re.Pattern[str]:
+    """What `visible` shows as escapes."""
     import re
 
-    return re.compile(_UNSEEN).sub(_escape, text)
+    return re.compile(_UNSEEN)  # (which makes it once)
 
 
 def _escape(found: re.Match[str]) -> str:
