@@ -136,14 +136,44 @@ class Recorded(unittest.TestCase):
         self.assertEqual([action[0] for action in body["do"]], ["addTimeout"])
         self.words(program)
 
-    def test_a_function_of_the_programs_for_the_cancel_is_told_one_level_down(self) -> None:
+    def test_what_the_program_does_with_a_time_out_is_the_body_of_the_timer(self) -> None:
         def program() -> None:
             clock = task.Clock()
-            late: defer.Deferred[int] = defer.Deferred()
+            late: defer.Deferred[str] = defer.Deferred()
             late.addTimeout(1, clock, lambda value, seconds: "late")
             clock.advance(1)
 
-        self.assertEqual(self.words(program), ["deferred", "later", "addBoth", "addBoth", "advance"])
+        self.assertEqual(self.words(program), ["deferred", "addTimeout", "advance"])
+        script = json.loads(recorded(program).text)
+        self.assertEqual((script["version"], script["events"][1][2:]), (3, [1, {"end": ["return", "late"]}]))
+
+    def test_what_it_does_may_be_more_than_a_value(self) -> None:
+        def program() -> None:
+            clock = task.Clock()
+            late: defer.Deferred[str] = defer.Deferred()
+            other: defer.Deferred[str] = defer.Deferred()
+
+            def handle(value: object, seconds: float) -> defer.Deferred[str]:
+                other.callback("other")
+                return other
+
+            late.addTimeout(1, clock, handle)
+            clock.advance(1)
+
+        body = json.loads(recorded(program).text)["events"][2][3]
+        self.assertEqual(([action[0] for action in body["do"]], body["end"][0]), (["callback"], "wait"))
+        self.words(program)
+
+    def test_where_a_time_out_does_not_come_its_body_is_empty(self) -> None:
+        def program() -> None:
+            clock = task.Clock()
+            soon: defer.Deferred[int] = defer.Deferred()
+            soon.addTimeout(3, clock, lambda value, seconds: "late")
+            soon.callback(1)
+            clock.advance(4)
+
+        self.assertEqual(json.loads(recorded(program).text)["events"][1][3], {})
+        self.words(program)
 
     def test_a_timer_on_another_clock_is_told_one_level_down(self) -> None:
         def program() -> None:
