@@ -93,7 +93,7 @@ def run_in(program: Path, script: str, order: Order) -> Run:
     words = [_BATCHES, batches_text(order)]
     printed = performed(program, words, script)
     told = performed(program, [_JSON, *words], script)
-    return Run(order, printed.output, printed.status == 1, told.output)
+    return Run(order, printed.output, printed.status, told.output)
 
 
 def runs_in(program: Path, script: str, chosen: Iterable[Order]) -> Iterator[Run]:

@@ -133,6 +133,7 @@ ReachesNoWaiter r = Unit {0}
 pub record Quiet (R : World → World → Type 0) : Type 0 where
   pub stays : (w : World) → R w w
   pub joins : (u v w : World) → R u v → R v w → R u w
+  pub by_stop : (w : World) → R w (with_stop w)
   pub by_make : (name : Option (List ℕ)) (canceller : Option Canceller) (w : World) → R w (make name canceller w)
   pub by_cancel : (d : ℕ) (w : World) → ReachesNoWaiter (cancel d w).0 → R w (cancel d w).1
   pub by_pause : (d : ℕ) (w : World) → R w (pause d w)
@@ -665,6 +666,16 @@ step_quiet steps.TellDrain w m =
 step_quiet (steps.TellPost caller index) w m =
     by_aside (entry.Post caller index) _ w refl (tt, tt) (λ k. Leaves (refl, refl, refl)) (λ k. k)
     (resting _ _ _ refl refl refl refl refl refl refl refl refl) refl
+step_quiet (steps.TellMet d state) w m =
+    by_aside (entry.Expect d state) _ w refl tt (λ k. Leaves (refl, refl, refl)) (λ k. k)
+    (resting _ _ _ refl refl refl refl refl refl refl refl refl) refl
+step_quiet (steps.TellUnmet d state) w m =
+    by_aside (entry.Unmet d state) _ w refl tt (λ k. Leaves (refl, refl, refl)) (λ k. k)
+    (resting _ _ _ refl refl refl refl refl refl refl refl refl) refl
+step_quiet (steps.TellUnbound name) w m =
+    by_aside (entry.Unbound name) _ w refl tt (λ k. Leaves (refl, refl, refl)) (λ k. k)
+    (resting _ _ _ refl refl refl refl refl refl refl refl refl) refl
+step_quiet steps.StopRun w m = record { keeps = λ R l. l.by_stop w }
 step_quiet (steps.Put d v) w m = absurd m
 step_quiet (steps.PutDeferred d e) w m = absurd m
 

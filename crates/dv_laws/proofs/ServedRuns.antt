@@ -446,6 +446,7 @@ module _ (S : Sought) (name : List ℕ) where
     quiet = record {
       stays = stays S name;
       joins = joins S name;
+      by_stop = stops S name;
       by_make = λ given canceller w.
           live (Goes S name w) w (make given canceller w) (stays S name w) (make_stays given canceller w)
           (λ s. make_cases w (Goes S name w) (stays S name w) (stops S name w) given canceller

@@ -219,6 +219,7 @@ module _ (R : World → World → Type 0) (k : Still R) where
     quiet = record {
       stays = k.stays;
       joins = k.joins;
+      by_stop = k.stops;
       by_make =
           λ name canceller w.
           make_cases w (R w) (k.stays w) (k.stops w) name canceller (λ x. k.news name canceller w x);

@@ -8,7 +8,7 @@ from typing import Any, Iterator, List, Tuple
 
 from ..checkout import TOP
 from .comparing import words_in
-from .grammar import SINCE
+from .grammar import EXPECTING_SINCE, SINCE
 from .rows import ROWS as FOLDER
 from .rows import Expected, written
 from .running import run
@@ -27,7 +27,7 @@ def rules(path: Path = RULES) -> Iterator[Tuple[str, str]]:
     for part in path.read_text(encoding="utf-8").removeprefix("== ").split("\n== "):
         name, *lines = part.strip().split("\n")
         events = list(_events("\n".join(lines)))
-        version = max(SINCE.get(word, 1) for word in words_in(events))
+        version = max(SINCE.get(word, EXPECTING_SINCE.get(word, 1)) for word in words_in(events))
         said = ",\n ".join(json.dumps(event, ensure_ascii=False, separators=(",", ":")) for event in events)
         yield name, f'{{"version":{version},"events":[\n {said}]}}'
 
@@ -48,7 +48,7 @@ def row(name: str, script: str) -> Expected:
     ran = run(script.encode())
     if ran.quirks:
         raise Quirky(f"{name}: Twisted does here what docs/TWISTED.md says of {ran.quirks[0][1].value}")
-    return Expected(ROWS.name, name, script, int(ran.stopped), "", ran.output)
+    return Expected(ROWS.name, name, script, ran.status, "", ran.output)
 
 
 def file_of_rows() -> str:

@@ -3,7 +3,7 @@ use Rattle.dv_json.proofs.printing.write_totals.Goals as goal
 
 pub returns : goal.returns
 returns c =
-    totals_added c.write_text.result _ _ c.args.run.stopped c.args.time _ _ _ _ _ _ _ _ c.write_text.ensures
-    c.limit.ensures c.weight.ensures
+    totals_added c.write_text.result _ _ _ _ _ _ _ c.args.time _ _ _ _ _ _ _ _ _ c.write_text.ensures
+    c.limit.ensures c.ending.ensures c.is_at_limit.ensures c.len.ensures c.weight.ensures
     c.in_ok-write_number.ensures.text c.in_ok-write_bool.ensures.text c.in_ok-write_number-2.ensures.text
-    c.in_ok-write_number-3.ensures.text
+    c.in_ok-write_unmet.ensures c.in_ok-write_number-3.ensures.text
