@@ -165,7 +165,7 @@ pub record IsMade (by : Canceller) (d : ℕ) (rs : Records) : Type 0 where
   pub leaves : made.canceller ≡ Some by
   pub fresh : made.swallows ≡ false
 
--- whoever got a value is fired with it
+-- a Deferred that got a value is fired with it
 abbrev pub handed : Option (ℕ × Value) → World → World
 handed None w = w
 handed (Some who) w = (fire who.0 who.1 w).1
@@ -178,7 +178,7 @@ handed_to d (Some value) w = (fire d value w).1
 abbrev pub asking : ℕ → Semaphore → Option ℕ
 asking d s = if has_free s then Some d else None
 
--- whoever is granted one is fired with the name of the lock
+-- a Deferred that is granted one is fired with the name of the lock
 abbrev pub granted : Option ℕ → List ℕ → World → World
 granted None name w = w
 granted (Some d) name w = (fire d (Text name) w).1
@@ -284,7 +284,8 @@ loop_beside e old new t a b c p q r = record {
 child_fired_comes : (l i : ℕ) (v : Value) (o : Option Gather) (w : World) → Quietly w (child_fired_found l i v o w).1
 child_fired_comes l i v None w = same w
 child_fired_comes l i v (Some g) w =
-    by_arrange (with_list l (child_fired i v g).1) w (refl, refl) Stays (λ k. k) (arranging _ _ refl refl refl refl refl) refl
+    by_arrange (with_list l (child_fired i v g).1) w (refl, refl) Stays (λ k. k)
+    (arranging _ _ refl refl refl refl refl) refl
 
 child_fired_in_comes : (l i : ℕ) (v : Value) (w : World) → Quietly w (child_fired_in l i v w).1
 unfolding child_fired_in
@@ -547,7 +548,7 @@ upcoming_comes (Some call) w h =
 -- Steps: all but those by which a Deferred is settled and time goes on.
 
 -- a Deferred to which a pair is added is settled at once, and so is one that is fired since it was cancelled, directly
--- after the cancel; whoever is granted a token is fired at once
+-- after the cancel; a Deferred that is granted a token is fired at once
 abbrev pub IsQuiet : steps.Step → Type 0
 IsQuiet (steps.Put d v) = ⊥
 IsQuiet (steps.PutDeferred d e) = ⊥

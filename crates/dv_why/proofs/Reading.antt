@@ -1,8 +1,8 @@
 -- Where each part of a value fits, it reads.
 use Rattle.std.proofs.Common.{Ordering, Less, Equal, Greater, is_eq, nat_cmp, ◌≡◌, ℕ, zero, suc, ◌≤◌, nat_eq, nat_le}
 use Rattle.std.proofs.Common.{nat_lt}
-use Rattle.std.proofs.Common.{Bool, true, false, ◌&&◌, ◌||◌, List, [], ◌∷◌, Option, Some, None, is_some, option_and_then}
-use Rattle.std.proofs.Common.{bytes_eq, refl}
+use Rattle.std.proofs.Common.{Bool, true, false, ◌&&◌, ◌||◌, List, [], ◌∷◌, Option, Some, None, is_some}
+use Rattle.std.proofs.Common.{option_and_then, bytes_eq, refl}
 use Rattle.std.proofs.Common.{sym, ap, subst, ◌∙◌, arith, codes}
 use Rattle.std.specs.List.{list_any}
 use Rattle.std.specs.Cmp.Lexicographic.{slice_cmp}
@@ -579,7 +579,8 @@ last_of v n table (Some d) h = end_fine v n table d (h d refl)
 shaped : (v : ℕ) {n : ℕ} (since : ℕ) (d : Data) → IsFine v n (want.Keyed (keyed.Body since)) d
     → (is_some (as_object d) || (is_some (as_str d) && nat_le BODIES_SINCE v)) ≡ true
 shaped v since d h =
-    (and_parts (nat_le since v) (is_some (as_object d) || (is_some (as_str d) && nat_le BODIES_SINCE v)) (fits_fine h)).1
+    (and_parts (nat_le since v) (is_some (as_object d) || (is_some (as_str d) && nat_le BODIES_SINCE v))
+    (fits_fine h)).1
 
 body_of : (v n : ℕ) (table : List Class) → AreRead v n table → {since : ℕ} (d : Data)
     → IsFine v (suc n) (want.Keyed (keyed.Body since)) d → (b : Body) × IsBody table d b
@@ -589,7 +590,8 @@ body_of v n table r {since} (object ms) h =
     (record { actions = xs.0; end = x.0 }, body ms xs.0 x.0 (body_only v since ms h.suit) xs.1 x.1)
 body_of v n table r {since} (string x) h = (running x, body_by_name x)
 body_of v n table r {since} d h =
-    let shape : (is_some (as_object d) || (is_some (as_str d) && nat_le BODIES_SINCE v)) ≡ true = shaped v since d h in cc
+    let shape : (is_some (as_object d) || (is_some (as_str d) && nat_le BODIES_SINCE v)) ≡ true =
+    shaped v since d h in cc
 
 -- the arguments of a word read as those of a statement
 abbrev IsStatementRead : ℕ → ℕ → List Class → List ℕ → List Want → Type 0
@@ -645,7 +647,8 @@ no_body : (v : ℕ) (table : List Class) {since : ℕ} (d : Data) → IsFine v 0
 no_body v table {since} (object ms) h = let deep : depth (object ms) ≤ 0 = h.deep in absurd (omega (arith, deep))
 no_body v table {since} (string x) h = (running x, body_by_name x)
 no_body v table {since} d h =
-    let shape : (is_some (as_object d) || (is_some (as_str d) && nat_le BODIES_SINCE v)) ≡ true = shaped v since d h in cc
+    let shape : (is_some (as_object d) || (is_some (as_str d) && nat_le BODIES_SINCE v)) ≡ true =
+    shaped v since d h in cc
 
 no_statement : (v : ℕ) (table : List Class) (d : Data) → IsFine v 0 (want.Call call_of.Statement) d
     → (s : Statement) × IsStatement table d s
