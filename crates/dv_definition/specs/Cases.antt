@@ -78,7 +78,7 @@ FiredListsStay =
     → (let after = world.child_fired_in child.list child.place input w in is_unfired child.of after.1 ≡ false
     → run (report child input) w ≡ (frame.Give (Gave after.0.pass) ∷ [], Done, after.1))
 
--- a firing ends the timer
+-- a time-out starts a timer, and adds two pairs, of which the second one ends it
 abbrev pub FiringsEndTimers : Type 0
 FiringsEndTimers =
     (d delay : ℕ) (body : Option Body) (w : World)

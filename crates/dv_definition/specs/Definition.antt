@@ -320,8 +320,9 @@ give_gathered input = Finds (seconds_of input) (raise not_gathered) give
 
 -- 12. Time-outs (Twisted: `Deferred.addTimeout`).
 
--- cancels d after so many ticks, unless its second pair has run by then. A timer is started, and d gets two pairs: one
--- turns a cancellation by the timer into TimeoutError, or runs the body that is given for it, and one ends the timer
+-- starts a timer, and adds two pairs to d. After so many ticks d is cancelled, unless the second of these pairs has run
+-- by then. The first turns a failure of CancelledError, or of a class below it, into TimeoutError if the timer has
+-- expired; with a body it runs that instead, on any input. The second ends the timer
 abbrev pub add_timeout : ℕ → ℕ → Option Body → Rule
 add_timeout d delay body =
     next_call λ t.
