@@ -148,15 +148,15 @@ class Said:
         if conflict is not None:
             self._problem(conflict.reason, conflict.kind, conflict.place)
         told = self._told = [not isinstance(action, Advance) or action.is_told for action in recorder.events]
-        #: the events of the whole run that are told, before which parts of lines each begins, and its place among those of the recorder
+        #: the events of the whole run that are recorded, before which parts of lines each begins, and its place among the recorder's
         self.actions = list(compress(recorder.events, told))
         self._begins = list(compress(recorder.begins, told))
         self._places = list(compress(count(), told))
 
     def _count_events(self) -> int:
-        """How many events have ended that are told.
+        """How many of the recorded events have ended.
 
-        What an advance that isn't told runs is run by the one that is told before it, which ends with it.
+        What an advance that isn't recorded runs is run by the recorded one before it, which ends with it.
         """
         while self._ended < len(self._told) and not self._told[self._ended]:
             self._ended -= 1

@@ -62,9 +62,9 @@ def changes_of(ticks: Sequence[Tick]) -> List[Change]:
 
 
 def places_of(changes: Sequence[Change], events: Sequence[Action]) -> Dict[int, int]:
-    """Before which of the events that are told the number changes, and to what, by their places among these.
+    """Before which of the recorded events the number changes, and to what, by their places among these.
 
-    An advance that isn't told is a part of the one that is told before it. Raises Uneven, if two changes are in one.
+    An advance that isn't recorded is a part of the recorded one before it. Raises Uneven, if two changes are in one.
     """
     units = {id(change.event): change.units for change in changes}
     places: Dict[int, int] = {}
