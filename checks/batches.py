@@ -18,8 +18,8 @@ from worded import Row, difference, read_rows
 
 _FILE = TOP / "checks" / "batches.rows"
 _TOLD = ("entry", "deferred")
-#: the statuses of a run that went to its end, or to the limit of its journal, and that of batches that are refused
-_PERFORMED, _REFUSED = (0, 1), 5
+#: the statuses of a run: it went to its end, to the limit of its journal, or to an `expect` that was unmet; and that of refused batches
+_PERFORMED, _REFUSED = (0, 1, 8), 5
 #: a caller that no script has
 _NOBODY = 8
 

@@ -25,6 +25,7 @@ from deferreds.survey import (
     ONE_OUTCOME,
     SEVERAL_OUTCOMES,
     TOO_MANY,
+    UNMET,
     Run,
     batches_text,
     survey_of,
@@ -37,8 +38,9 @@ from worded import Row, difference, read_rows
 
 _FILE = TOP / "checks" / "orders.rows"
 _JSON, _OPTION, _BATCHES = "--json", "--orders", "--batches"
-#: the statuses of `--orders` of which the model knows, and those of a run that went to its end, or to the limit of its journal
-_MODELLED, _PERFORMED = (ONE_OUTCOME, SEVERAL_OUTCOMES, TOO_MANY), (0, 1)
+#: the statuses of `--orders` of which the model knows; and those of a run: it went to its end, or to the limit of its journal, or to an
+#: `expect` that was unmet
+_MODELLED, _PERFORMED = (ONE_OUTCOME, SEVERAL_OUTCOMES, TOO_MANY, UNMET), (0, 1, UNMET)
 #: the fewest orders of a random script, and how many run at most: if there are more, so many are drawn
 _FEWEST, _MOST, _DRAWN = 2, 60, 5
 _SHOWN = 300
@@ -93,7 +95,7 @@ def run_in(program: Path, script: str, order: Order) -> Run:
     words = [_BATCHES, batches_text(order)]
     printed = performed(program, words, script)
     told = performed(program, [_JSON, *words], script)
-    return Run(order, printed.output, printed.status == 1, told.output)
+    return Run(order, printed.output, printed.status, told.output)
 
 
 def runs_in(program: Path, script: str, chosen: Iterable[Order]) -> Iterator[Run]:

@@ -65,6 +65,8 @@ def all_scripts() -> list[Script]:
         script("posts"),
         script("own_class"),
         script("whole_language"),
+        script("expected_unmet", status=8),
+        script("expected_unbound", status=8),
         script("cancelled_again", status=1),
         script("unknown_action", status=2, errors=b"script refused: 4 BadShape\n"),
         script("no_utf8", status=2, errors=b"script refused: 2 NotJson\n"),
@@ -76,13 +78,25 @@ def all_scripts() -> list[Script]:
         script_as_json("fired_in_orders", status=6, words=("--orders",)),
         script_as_json("fired_in_sample", status=6, words=("--orders", "--sample", "2", "--seed", "1")),
         script("fired_in_sample", status=6, words=("--orders", "--sample", "2", "--seed", "1")),
+        script("unmet_in_orders", status=8, words=("--orders",)),
+        script_as_json("unmet_in_orders", status=8, words=("--orders",)),
         script("too_many_orders", status=7, errors=TOO_MANY, words=("--orders", "--most", "1")),
     ]
 
 
 def told_scripts() -> list[Script]:
     """Those of which the run is swept as JSON too, where each line takes many growths: a few, with all kinds of lines."""
-    names = {"loop_and_later", "held_task", "inline_goes_on", "jobs", "posts", "cancelled_again", "unknown_action"}
+    names = {
+        "loop_and_later",
+        "held_task",
+        "inline_goes_on",
+        "jobs",
+        "posts",
+        "cancelled_again",
+        "unknown_action",
+        "expected_unmet",
+        "expected_unbound",
+    }
     return [script for script in all_scripts() if script.name in names]
 
 

@@ -15,8 +15,11 @@ from .bounds import MOST_ORDERS
 from .orders import Order
 from .sampling import MOST_DRAWN_FROM
 
-#: the statuses: every order has the same outcome, there are several, there are more orders than may run
-ONE_OUTCOME, SEVERAL_OUTCOMES, TOO_MANY = 0, 6, 7
+#: the statuses: every order has the same outcome, there are several, there are more orders than may run, and a Deferred isn't as
+#: the script expects in some
+ONE_OUTCOME, SEVERAL_OUTCOMES, TOO_MANY, UNMET = 0, 6, 7, 8
+#: that of a run which stopped at the limit of its journal
+_AT_LIMIT = 1
 #: what is said where a sample is asked for of more orders than are counted
 NO_SAMPLE = "more orders than 64 bits count: no sample is drawn"
 
@@ -31,11 +34,11 @@ _KEPT = ("state", "type", "value")
 
 
 class Run(NamedTuple):
-    """A run of a script in one order: its batches, what was printed, and whether it stopped at the limit of its journal."""
+    """A run of a script in one order: its batches, what was printed, and its status."""
 
     batches: Order
     output: str
-    stopped: bool = False
+    status: int = 0
     #: what was printed of it as JSON, where the survey is written as JSON
     told: str = ""
 
@@ -115,8 +118,9 @@ class Survey:
         self._tallies: Dict[str, Dict[str, Tally]] = {}
         #: of each outcome
         self._outcomes: Dict[FrozenSet[Line], Tally] = {}
-        #: of the stops at the limit of the journal, where there are any
+        #: of the stops at the limit of the journal, and of the runs in which a Deferred wasn't as expected, where there are any
         self._stops: Optional[Tally] = None
+        self._unmet: Optional[Tally] = None
 
     def add(self, run: Run) -> None:
         """Adds a run, which is the next in the sequence of orders."""
@@ -131,12 +135,16 @@ class Survey:
     def _end(self, run: Run, outcome: FrozenSet[Line]) -> None:
         keys: Shown = {"type": "outcome", "outcome": len(self._outcomes) + 1}
         self._outcomes[outcome] = self._outcomes.get(outcome, Tally(0, run.batches, keys)).one_more
-        if run.stopped:
+        if run.status == _AT_LIMIT:
             self._stops = (self._stops or Tally(0, run.batches, {"type": "stopped"})).one_more
+        if run.status == UNMET:
+            self._unmet = (self._unmet or Tally(0, run.batches, {"type": "unmet"})).one_more
 
     @property
     def status(self) -> int:
         """The status with which `--orders` ends."""
+        if self._unmet is not None:
+            return UNMET
         return ONE_OUTCOME if len(self._outcomes) == 1 else SEVERAL_OUTCOMES
 
     @property
@@ -168,7 +176,8 @@ class Survey:
         ]
         outcomes = [self._tally_text(f"outcome {number}", tally) for number, tally in enumerate(self._outcomes.values(), 1)]
         stops = [self._tally_text("stopped at the limit of the journal", self._stops)] if self._stops else []
-        return [*ways, *outcomes, *stops]
+        unmet = [self._tally_text("unmet", self._unmet)] if self._unmet else []
+        return [*ways, *outcomes, *stops, *unmet]
 
     def _tally_text(self, what: str, tally: Tally) -> str:
         """Returns the line that says in how many orders this came."""
@@ -177,10 +186,15 @@ class Survey:
     def json_lines(self) -> str:
         """Returns what `--json --orders` prints, where each run was added with what was printed of it as JSON."""
         ways = [tally for states in self._tallies.values() for tally in states.values()]
-        tallies = [*ways, *self._outcomes.values(), *([self._stops] if self._stops else [])]
+        tallies = [*ways, *self._outcomes.values(), *(tally for tally in (self._stops, self._unmet) if tally is not None)]
         first: Shown = {"type": "orders", "orders": self._total}
-        stopped = self._stops.orders if self._stops else 0
-        last: Shown = {"type": "end", "orders": self._orders, "outcomes": len(self._outcomes), "stopped": stopped}
+        last: Shown = {
+            "type": "end",
+            "orders": self._orders,
+            "outcomes": len(self._outcomes),
+            "stopped": self._stops.orders if self._stops else 0,
+            "unmet": self._unmet.orders if self._unmet else 0,
+        }
         lines = [first, *map(tally_keys, tallies), last]
         return "".join(f"{json_text({**line, 'sample': self._sample})}\n" for line in lines)
 

@@ -30,6 +30,7 @@ _SHOWN: Dict[str, str] = {
     "value": "JSON",
     "failure": 'CLASS "MESSAGE"',
     "text": "TEXT",
+    "state": "STATE",
 }
 
 
@@ -119,7 +120,7 @@ class OfRuns(unittest.TestCase):
         return {line.line for line in LANGUAGE.lines if any(part["type"] in types for part in line.parts)}
 
     def test_lines_that_show_a_value(self) -> None:
-        shown = self._with("outcome", "value", "text", "failure")
+        shown = self._with("outcome", "value", "text", "failure", "state")
         self.assertEqual(self._kinds("value") - {"null"}, shown)
 
     def test_lines_of_two_words(self) -> None:

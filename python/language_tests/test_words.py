@@ -27,6 +27,7 @@ _SAMPLES: Dict[str, Json] = {
     "end": ["pass"],
     "leaving": ["pass"],
     "work": ["sum", 1],
+    "outcome": ["unfired"],
 }
 
 

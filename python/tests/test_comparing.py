@@ -27,7 +27,7 @@ class Twisted:
     def answer(self, script: str, batches: Optional[Batches] = None) -> Answer:
         """What Twisted prints, changed."""
         ran = run(script.encode(), batches)
-        return Answer(int(ran.stopped), self._change(ran.output), "")
+        return Answer(ran.status, self._change(ran.output), "")
 
     def close(self) -> None:
         """Nothing is left to do."""

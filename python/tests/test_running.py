@@ -7,7 +7,7 @@ import unittest
 from typing import Any, List, Optional
 
 from deferreds.twisted.profile import Entry
-from deferreds.twisted.running import Batches, Run, be_quiet, run
+from deferreds.twisted.running import AT_LIMIT, OVER, UNMET, Batches, Run, be_quiet, run
 
 
 def ran(
@@ -258,6 +258,78 @@ class Limits(unittest.TestCase):
     def test_what_never_ends_ends_at_the_limit(self) -> None:
         run_ = ran(["deferred", "d", {"do": [["cancel", "@"]]}], ["cancel", "d"], limit=50)
         self.assertEqual((run_.stopped, len(run_.journal)), (True, 50))
+
+
+class Expecting(unittest.TestCase):
+    """What is expected, of the real Deferreds."""
+
+    def test_what_is_met_is_told(self) -> None:
+        events = (
+            ["deferred", "a"],
+            ["deferred", "b"],
+            ["addCallback", "a", {"end": ["wait", "b"]}],
+            ["callback", "a", 1],
+            ["expect", "a", ["waiting"]],
+            ["expect", "b", ["unfired"]],
+            ["callback", "b", [True, {"fail": "ValueError", "message": "x"}]],
+            ["expect", "a", ["ok", [True, {"fail": "ValueError", "message": "x"}]]],
+            ["errback", "b", "TypeError", ""],
+            ["expect", "b", ["ok", None]],
+        )
+        run_ = ran(*events, version=3)
+        self.assertEqual(
+            [line for line in run_.journal if line.startswith("expect")],
+            [
+                "expect #0 waiting #1",
+                "expect #1 unfired",
+                'expect #0 ok [true,{"fail":"ValueError","message":"x"}]',
+                "expect #1 ok null",
+            ],
+        )
+        self.assertEqual(run_.status, OVER)
+
+    def test_a_paused_one_waits_until_it_is_handed_something(self) -> None:
+        run_ = ran(
+            ["deferred", "a"],
+            ["deferred", "b"],
+            ["addCallback", "a", {"end": ["wait", "b"]}],
+            ["callback", "a", 0],
+            ["pause", "a"],
+            ["expect", "a", ["waiting"]],
+            ["callback", "b", 5],
+            ["expect", "a", ["ok", 5]],
+            version=3,
+        )
+        self.assertEqual((run_.status, run_.journal[-1]), (OVER, "expect #0 ok 5"))
+
+    def test_a_waiter_has_the_name_of_its_lock(self) -> None:
+        run_ = ran(
+            ["lock", "l"],
+            ["acquire", "a", "l"],
+            ["expect", "a", ["ok", "l"]],
+            ["gather", "g", ["a"], []],
+            ["expect", "g", ["ok", ["l"]]],
+            ["expect", "a", ["ok", "m"]],
+            version=3,
+        )
+        self.assertEqual(
+            [line for line in run_.journal if line.startswith(("expect", "unmet"))],
+            ['expect #0 ok "l"', 'expect #1 ok ["l"]', 'unmet #0 ok "l"'],
+        )
+
+    def test_what_is_unmet_ends_the_run(self) -> None:
+        for outcome in (["unfired"], ["waiting"], ["ok", True], ["ok", 2], ["fail", {"fail": "ValueError", "message": ""}]):
+            with self.subTest(outcome=outcome):
+                run_ = ran(["deferred", "d"], ["callback", "d", 1], ["expect", "d", outcome], ["note", "no"], version=3)
+                self.assertEqual((run_.status, run_.journal[-1], run_.outcomes), (UNMET, "unmet #0 ok 1", ["#0 d ok 1"]))
+
+    def test_a_name_that_is_unbound_ends_it_too(self) -> None:
+        run_ = ran(["expect", "d", ["unfired"]], ["deferred", "d"], version=3)
+        self.assertEqual((run_.status, run_.journal), (UNMET, ['unbound "d"']))
+
+    def test_what_does_not_fit_is_neither(self) -> None:
+        run_ = ran(["deferred", "d"], ["expect", "d", ["waiting"]], version=3, limit=1)
+        self.assertEqual((run_.status, run_.journal), (AT_LIMIT, ["new #0 d"]))
 
 
 class Quirks(unittest.TestCase):

@@ -42,6 +42,12 @@ class Refusals(unittest.TestCase):
         self.assertEqual(refusal(script + " " * (1_048_576 - len(script))), 0)
         self.assertEqual(refusal(script + " " * (1_048_577 - len(script))), 1)
 
+    def test_version_3_is_the_first_that_expects_something(self) -> None:
+        for version, number in ((1, 4), (2, 4), (3, 0)):
+            with self.subTest(version):
+                self.assertEqual(refusal('{"version":%d,"events":[["expect","d",["unfired"]]]}' % version), number)
+        self.assertEqual(refusal('{"version":3,"events":[["maybe","d",{"do":[["expect","d",["unfired"]]]}]]}'), 4)
+
     def test_a_long_script_says_version_3(self) -> None:
         for version, number in (("1", 1), ("2", 1), ("3", 0), ("4", 1), ("3.0", 1), ("[3]", 1)):
             with self.subTest(version):

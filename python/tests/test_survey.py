@@ -10,6 +10,7 @@ from deferreds.bounds import MOST_ORDERS, ORDERS
 from deferreds.survey import (
     ONE_OUTCOME,
     SEVERAL_OUTCOMES,
+    UNMET,
     Line,
     Run,
     lines_of,
@@ -54,7 +55,7 @@ class Surveys(unittest.TestCase):
         survey = survey_of(
             [
                 Run(_FIRST, "#0 d ok 1\n#1 e unfired\n"),
-                Run(_SECOND, "#0 f ok 2\n#1 d unfired\n", stopped=True),
+                Run(_SECOND, "#0 f ok 2\n#1 d unfired\n", status=1),
                 Run(_THIRD, "#0 d ok 1\n#1 e ok 2\n"),
             ]
         )
@@ -95,7 +96,7 @@ class Surveys(unittest.TestCase):
         self.assertEqual((survey.text(), survey.status), ("1 order\noutcome 1 in 1 order, first [[]]\n1 order, 1 outcome\n", ONE_OUTCOME))
 
     def test_outcomes_and_stops_are_counted_apart(self) -> None:
-        survey = survey_of([Run(_FIRST, ""), Run(_SECOND, "#0 d ok 1\n", stopped=True), Run(_THIRD, "", stopped=True)])
+        survey = survey_of([Run(_FIRST, ""), Run(_SECOND, "#0 d ok 1\n", status=1), Run(_THIRD, "", status=1)])
         self.assertEqual(
             survey.text().splitlines()[2:],
             [
@@ -103,6 +104,17 @@ class Surveys(unittest.TestCase):
                 "outcome 2 in 1 order, first [[[1,0]],[[0,0]]]",
                 "stopped at the limit of the journal in 2 orders, first [[[1,0]],[[0,0]]]",
                 "3 orders, 2 outcomes",
+            ],
+        )
+
+    def test_what_is_unmet_in_an_order_decides_the_status(self) -> None:
+        survey = survey_of([Run(_FIRST, ""), Run(_SECOND, "", status=8), Run(_THIRD, "", status=8)])
+        self.assertEqual((survey.text().splitlines()[2:], survey.status), (["unmet in 2 orders, first [[[1,0]],[[0,0]]]", "3 orders, 1 outcome"], UNMET))
+        self.assertEqual(
+            survey.json_lines().splitlines()[2:],
+            [
+                '{"batches":[[[1,0]],[[0,0]]],"count":2,"sample":null,"type":"unmet"}',
+                '{"orders":3,"outcomes":1,"sample":null,"stopped":0,"type":"end","unmet":2}',
             ],
         )
 
@@ -137,7 +149,7 @@ class JsonLines(unittest.TestCase):
                 Run(
                     _SECOND,
                     '#0 d fail ValueError "\u00fc\\n"\n',
-                    True,
+                    1,
                     _told({"name": "d", "number": 0, "state": "fail", "value": failure, "fired_by": 3}),
                 ),
                 Run(_THIRD, "#0 d paused unfired\n", told=_told({"name": "d", "number": 0, "pauses": 2})),
@@ -153,7 +165,7 @@ class JsonLines(unittest.TestCase):
             '{"batches":[[[0,0]],[]],"count":2,"outcome":1,"sample":null,"type":"outcome"}\n'
             '{"batches":[[[1,0]],[[0,0]]],"count":1,"outcome":2,"sample":null,"type":"outcome"}\n'
             '{"batches":[[[1,0]],[[0,0]]],"count":1,"sample":null,"type":"stopped"}\n'
-            '{"orders":3,"outcomes":2,"sample":null,"stopped":1,"type":"end"}\n',
+            '{"orders":3,"outcomes":2,"sample":null,"stopped":1,"type":"end","unmet":0}\n',
         )
 
     def test_each_line_of_a_sample_has_its_size(self) -> None:
@@ -162,7 +174,7 @@ class JsonLines(unittest.TestCase):
             survey.json_lines(),
             '{"orders":6,"sample":2,"type":"orders"}\n'
             '{"batches":[[[0,0]],[]],"count":2,"outcome":1,"sample":2,"type":"outcome"}\n'
-            '{"orders":2,"outcomes":1,"sample":2,"stopped":0,"type":"end"}\n',
+            '{"orders":2,"outcomes":1,"sample":2,"stopped":0,"type":"end","unmet":0}\n',
         )
 
     def test_one_that_waits_names_the_other_by_its_place(self) -> None:

@@ -58,7 +58,12 @@ def stopped(count: int, first: str, sample: Optional[int] = None) -> str:
     return line("stopped", sample, count=count, batches=json.loads(first))
 
 
-def printed_of(*lines: str, orders: int = 6, sample: Optional[int] = None, stops: int = 0) -> str:
+def unmet(count: int, first: str, sample: Optional[int] = None) -> str:
+    """The line of the orders in which an `expect` was unmet."""
+    return line("unmet", sample, count=count, batches=json.loads(first))
+
+
+def printed_of(*lines: str, orders: int = 6, sample: Optional[int] = None, stops: int = 0, misses: int = 0) -> str:
     """What is printed with these lines, and with an outcome of its own for each first order where they have none."""
     told = [json.loads(one) for one in lines]
     firsts = dict.fromkeys(json.dumps(one["batches"]) for one in told)
@@ -66,7 +71,7 @@ def printed_of(*lines: str, orders: int = 6, sample: Optional[int] = None, stops
     if any(one["type"] == "outcome" for one in told):
         more = []
     outcomes = len(more) + sum(one["type"] == "outcome" for one in told)
-    last = line("end", sample, orders=sample or orders, outcomes=outcomes, stopped=stops)
+    last = line("end", sample, orders=sample or orders, outcomes=outcomes, stopped=stops, unmet=misses)
     return "".join([line("orders", sample, orders=orders), *lines, *more, last])
 
 
@@ -244,6 +249,13 @@ class OfPage(unittest.TestCase):
         self.assertIn("The first order that stopped at the limit of the journal.", page)
         self.assertEqual(rows(page, _OUTCOMES)[1], ["stopped at the limit of the journal", "2", "66.7%", "order B"])
 
+    def test_orders_in_which_something_is_unmet_are_said(self) -> None:
+        printed = printed_of(outcome(1, 3, "[[[0,0]]]"), unmet(2, "[[[0,1]]]"), orders=3, misses=2)
+        page = page_of(printed, lost(), mended()).html()
+        self.assertIn("2 orders unmet</span>", page)
+        self.assertIn("The first order in which a Deferred isn't as the script expects.", page)
+        self.assertEqual(rows(page, _OUTCOMES)[1], ["unmet", "2", "66.7%", "order B"])
+
     def test_each_outcome_opens_the_chart_of_its_first_order(self) -> None:
         page = page_of(_PRINTED, lost(), mended()).html()
         self.assertEqual(rows(page, _OUTCOMES), [["outcome 1", "1", "16.7%", "order A"], ["outcome 2", "5", "83.3%", "order B"]])
@@ -322,6 +334,12 @@ class OfCommand(unittest.TestCase):
         page = target.read_text(encoding="utf-8")
         self.assertEqual(rows(page)[0], ["bob 1 2 ways", "○ unfired", "1", "16.7%", "order A"])
         self.assertIn("full_queue.json, order B", page)
+
+    def test_one_page_for_a_script_that_is_unmet_in_some_order(self) -> None:
+        status, output, errors = view("--orders", _EXAMPLES / "answered_or_cancelled.json", "-o", self.folder)
+        target = self.folder / "answered_or_cancelled.orders.html"
+        self.assertEqual((status, output, errors), (0, "", f"view: {target}: 4 orders, 3 outcomes; 3 charts\n"))
+        self.assertIn("3 orders unmet</span>", target.read_text(encoding="utf-8"))
 
     def test_on_standard_output_and_in_a_file_of_another_name(self) -> None:
         status, output, _ = view("--orders", "--most", 6, "-o", "-", _FULL_QUEUE)

@@ -1,14 +1,15 @@
 -- How the program ends, by how its task does.
-use Rattle.std.proofs.Common.{◌≡◌, ℕ, List, Bool, [], Option, None, Some, Result, Ok, Err, IfErr, IfOk, inl, inr, codes}
-use Rattle.std.proofs.Common.{if◌then◌else◌}
+use Rattle.std.proofs.Common.{◌≡◌, ℕ, List, [], Option, None, Some, Result, Ok, Err, IfErr, IfOk, inl, inr, codes}
 use Rattle.std.proofs.KnownBytes.{Keeps-refl}
 use Rattle.dv_engine.specs.declared.report.Report.{Report}
+use Rattle.dv_journal.specs.Ending.{ending_of}
+use Rattle.dv_journal.specs.declared.ending.Ending.{Ending}
 use Rattle.dv_json.specs.Exit.{error_text as json_text, status as json_status}
 use Rattle.dv_json.specs.Lines.{GivesUp as GivesUpAsJson, HasRun}
 use Rattle.dv_json.specs.Replayed.{GivesUpIn, HasRunIn}
 use Rattle.dv_orders.specs.Reading.{batches_in}
 use Rattle.dv_orders.specs.declared.fault.OrderFault.{OrderFault}
-use Rattle.dv_run.specs.Exit.{error_text, status}
+use Rattle.dv_run.specs.Exit.{error_text, status, status_of}
 use Rattle.dv_run.specs.declared.error.RunFault.{RunFault}
 use Rattle.dv_posts.specs.Batches.{Batch}
 use Rattle.dv_reader.specs.declared.error.ScriptFault.{ScriptFault}
@@ -21,6 +22,7 @@ use Rattle.dv_replay.specs.Surveying as surveying
 use Rattle.dv_replay.specs.Surveying.{Surveys}
 use Rattle.dv_replay.specs.declared.error.ReplayFault.{ReplayFault}
 use Rattle.dv_replay.specs.declared.error.SurveyFault.{SurveyFault}
+use Rattle.dv_replay.specs.declared.exit.Sums.{Sums}
 use Rattle.dv_run.specs.Headline.{Prints, Told}
 use Rattle.dv_run.specs.Run.{GivesUp}
 use Rattle.dv_run.specs.declared.orders.Chosen.{Chosen}
@@ -38,7 +40,7 @@ pub runs : (ended : Result Report RunFault) (code : ℕ) (said : List ℕ) (inpu
 runs ended code said input old new ok err is says =
     record { ended = ended; ok = ok; err = err; status = is; text = says }
 
-pub runs_as_json : (ended : Result Bool RunFault) (code : ℕ) (said : List ℕ) (input old new : Told)
+pub runs_as_json : (ended : Result Ending RunFault) (code : ℕ) (said : List ℕ) (input old new : Told)
     → IfOk ended (HasRun input old new) → IfErr ended (λ fault. GivesUpAsJson fault input old new)
     → code ≡ json_status ended → said ≡ json_text ended → RunsAsJson code said input old new
 runs_as_json ended code said input old new ok err is says =
@@ -52,7 +54,7 @@ explains ended code said input old new ok is says = record { ended = ended; ok =
 -- a run in given batches went to its end, or failed
 pub replays_lines : (batches : List Batch) (report : Report) (code : ℕ) (said : List ℕ) (refusal : Option OrderFault)
     (input old new : Told) → PrintsIn batches input old new report
-    → code ≡ (if report.stopped then 1 else 0) → said ≡ [] → refusal ≡ None
+    → code ≡ status_of (ending_of report.stopped report.journal.entries) → said ≡ [] → refusal ≡ None
     → Replays form.Lines batches code said refusal input old new
 replays_lines batches report code said refusal input old new prints is says accepted =
     inl (record { report = report; prints = prints; ends = record { status = is; text = says; accepted = accepted } })
@@ -64,12 +66,12 @@ pub fails_lines : (batches : List Batch) (fault : ReplayFault) (code : ℕ) (sai
 fails_lines batches fault code said refusal input old new gives_up is says refused =
     inr (record { fault = fault; gives_up = gives_up; ends = record { status = is; text = says; refused = refused } })
 
-pub replays_json : (batches : List Batch) (stopped : Bool) (code : ℕ) (said : List ℕ) (refusal : Option OrderFault)
-    (input old new : Told) → HasRunIn batches input old new stopped
-    → code ≡ (if stopped then 1 else 0) → said ≡ [] → refusal ≡ None
+pub replays_json : (batches : List Batch) (ending : Ending) (code : ℕ) (said : List ℕ) (refusal : Option OrderFault)
+    (input old new : Told) → HasRunIn batches input old new ending
+    → code ≡ status_of ending → said ≡ [] → refusal ≡ None
     → Replays form.Json batches code said refusal input old new
-replays_json batches stopped code said refusal input old new runs is says accepted =
-    inl (record { stopped = stopped; runs = runs; ends = record { status = is; text = says; accepted = accepted } })
+replays_json batches ending code said refusal input old new runs is says accepted =
+    inl (record { ending = ending; runs = runs; ends = record { status = is; text = says; accepted = accepted } })
 
 pub fails_json : (batches : List Batch) (fault : ReplayFault) (code : ℕ) (said : List ℕ) (refusal : Option OrderFault)
     (input old new : Told) → GivesUpIn fault batches input old new
@@ -99,11 +101,11 @@ word_fails form workers word code said refusal many input told is says =
     inr (inr (record { status = is; text = says; written = Keeps-refl told }))
 
 -- a run in the chosen orders ended, or failed
-pub surveys_all : (format : Format) (chosen : Chosen) (outcomes code : ℕ) (said : List ℕ) (many : Option Number)
-    (input old new : Told) → Surveys format chosen input old new outcomes
-    → code ≡ survey_status outcomes → said ≡ [] → many ≡ None → SurveysScript format chosen code said many input old new
-surveys_all format chosen outcomes code said many input old new surveys is says few =
-    record { ended = Ok outcomes; ok = surveys; err = tt; status = is; text = says; number = few }
+pub surveys_all : (format : Format) (chosen : Chosen) (sums : Sums) (code : ℕ) (said : List ℕ) (many : Option Number)
+    (input old new : Told) → Surveys format chosen input old new sums
+    → code ≡ survey_status sums → said ≡ [] → many ≡ None → SurveysScript format chosen code said many input old new
+surveys_all format chosen sums code said many input old new surveys is says few =
+    record { ended = Ok sums; ok = surveys; err = tt; status = is; text = says; number = few }
 
 pub surveys_fault : (format : Format) (chosen : Chosen) (fault : SurveyFault) (code : ℕ) (said : List ℕ)
     (many : Option Number) (input old new : Told) → surveying.GivesUp format fault chosen input old new

@@ -1,14 +1,16 @@
 -- How the program ends, by how what it did with its script has ended.
-use Rattle.std.specs.Prelude.{◌≡◌, ◌⊎◌, ℕ, nat_eq, if◌then◌else◌, List, [], Bool, Option, None, Some, Result, IfErr}
+use Rattle.std.specs.Prelude.{◌≡◌, ◌⊎◌, ℕ, nat_eq, if◌then◌else◌, List, [], Option, None, Some, Result, IfErr}
 use Rattle.std.specs.Prelude.{IfOk, codes}
 use Rattle.std.specs.Io.KnownBytes.{Keeps}
 use Rattle.dv_engine.specs.declared.report.Report.{Report}
+use Rattle.dv_journal.specs.Ending.{ending_of}
+use Rattle.dv_journal.specs.declared.ending.Ending.{Ending}
 use Rattle.dv_json.specs.Exit.{error_text as json_text, status as json_status}
 use Rattle.dv_json.specs.Lines.{GivesUp as GivesUpAsJson, HasRun}
 use Rattle.dv_json.specs.Replayed.{GivesUpIn, HasRunIn}
 use Rattle.dv_orders.specs.Reading.{batches_in}
 use Rattle.dv_orders.specs.declared.fault.OrderFault.{OrderFault}
-use Rattle.dv_run.specs.Exit.{error_text, status}
+use Rattle.dv_run.specs.Exit.{error_text, status, status_of}
 use Rattle.dv_run.specs.declared.error.RunFault.{RunFault}
 use Rattle.dv_posts.specs.Batches.{Batch}
 use Rattle.dv_reader.specs.declared.error.ScriptFault.{ScriptFault}
@@ -20,6 +22,7 @@ use Rattle.dv_replay.specs.Surveying as surveying
 use Rattle.dv_replay.specs.Surveying.{Surveys}
 use Rattle.dv_replay.specs.declared.error.ReplayFault.{ReplayFault}
 use Rattle.dv_replay.specs.declared.error.SurveyFault.{SurveyFault}
+use Rattle.dv_replay.specs.declared.exit.Sums.{Sums}
 use Rattle.dv_run.specs.Headline.{Prints, Told}
 use Rattle.dv_run.specs.Run.{GivesUp}
 use Rattle.dv_run.specs.declared.orders.Chosen.{Chosen}
@@ -43,7 +46,7 @@ pub record Runs (code : ℕ) (said : List ℕ) (input old new : Told) : Type 0 w
 
 -- a run that is written as JSON Lines ended
 pub record RunsAsJson (code : ℕ) (said : List ℕ) (input old new : Told) : Type 0 where
-  pub ended : Result Bool RunFault
+  pub ended : Result Ending RunFault
   pub ok : IfOk ended (HasRun input old new)
   pub err : IfErr ended (λ fault. GivesUpAsJson fault input old new)
   pub status : code ≡ json_status ended
@@ -57,8 +60,8 @@ pub record ExplainsScript (code : ℕ) (said : List ℕ) (input old new : Told) 
   pub text : said ≡ ended_text ended
 
 -- a run in given batches went to its end
-pub record HasEnded (stopped : Bool) (code : ℕ) (said : List ℕ) (refusal : Option OrderFault) : Type 0 where
-  pub status : code ≡ (if stopped then 1 else 0)
+pub record HasEnded (ending : Ending) (code : ℕ) (said : List ℕ) (refusal : Option OrderFault) : Type 0 where
+  pub status : code ≡ status_of ending
   pub text : said ≡ []
   pub accepted : refusal ≡ None
 
@@ -73,7 +76,7 @@ pub record ReplaysLines (batches : List Batch) (code : ℕ) (said : List ℕ) (r
     (input old new : Told) : Type 0 where
   pub report : Report
   pub prints : PrintsIn batches input old new report
-  pub ends : HasEnded report.stopped code said refusal
+  pub ends : HasEnded (ending_of report.stopped report.journal.entries) code said refusal
 
 -- or it failed
 pub record FailsLines (batches : List Batch) (code : ℕ) (said : List ℕ) (refusal : Option OrderFault)
@@ -85,9 +88,9 @@ pub record FailsLines (batches : List Batch) (code : ℕ) (said : List ℕ) (ref
 -- the same of a run that is written as JSON Lines
 pub record ReplaysJson (batches : List Batch) (code : ℕ) (said : List ℕ) (refusal : Option OrderFault)
     (input old new : Told) : Type 0 where
-  pub stopped : Bool
-  pub runs : HasRunIn batches input old new stopped
-  pub ends : HasEnded stopped code said refusal
+  pub ending : Ending
+  pub runs : HasRunIn batches input old new ending
+  pub ends : HasEnded ending code said refusal
 
 pub record FailsJson (batches : List Batch) (code : ℕ) (said : List ℕ) (refusal : Option OrderFault)
     (input old new : Told) : Type 0 where
@@ -134,7 +137,7 @@ format_for form.Json chosen = format.Json (size_of chosen)
 -- a run in the chosen orders ended, or failed
 pub record SurveysScript (format : Format) (chosen : Chosen) (code : ℕ) (said : List ℕ) (many : Option Number)
     (input old new : Told) : Type 0 where
-  pub ended : Result ℕ SurveyFault
+  pub ended : Result Sums SurveyFault
   pub ok : IfOk ended (Surveys format chosen input old new)
   pub err : IfErr ended (λ fault. surveying.GivesUp format fault chosen input old new)
   pub status : code ≡ survey_ended ended

@@ -10,8 +10,8 @@ use dv_orders::fault::OrderFault;
 use dv_orders::number::Number;
 use dv_replay::error::{ReplayFault, SurveyFault};
 use dv_replay::exit::{
-    fault_refusal, fault_status, fault_text, survey_fault_status, survey_fault_text, survey_status,
-    too_many,
+    Sums, fault_refusal, fault_status, fault_text, survey_fault_status, survey_fault_text,
+    survey_status, too_many,
 };
 use dv_run::orders::Chosen;
 
@@ -94,14 +94,15 @@ impl Exit {
         }
     }
 
-    /// Ends after a run in every order, by the number of ways in which the runs ended.
-    pub fn of_survey(outcomes: usize) -> Exit
-        ensures status { result.status ≡ survey_status outcomes }
+    /// Ends after a run in every order, by the number of ways in which the runs ended, and of those
+    /// that ended since a Deferred wasn't as the script expects.
+    pub fn of_survey(sums: Sums) -> Exit
+        ensures status { result.status ≡ survey_status sums }
         ensures text { result.text.now ≡ [] }
         ensures refusal { result.refusal ≡ None }
         ensures few { result.too_many ≡ None }
     {
-        Exit::plain((survey_status(outcomes), ""))
+        Exit::plain((survey_status(sums), ""))
     }
 
     /// Ends where a run in these orders failed.

@@ -35,5 +35,6 @@ Status:
   5   the batches are refused: they aren't an order of the script's posts
   6   --orders: the orders end in several ways
   7   --orders: there are more orders than --most allows, or than 64 bits count
+  8   a Deferred wasn't as the script expects
   64  the words are wrong
 ";

@@ -56,7 +56,7 @@ where
                 format_for(form, chosen),
                 chosen,
             ) {
-                Ok(outcomes) => Exit::of_survey(outcomes),
+                Ok(sums) => Exit::of_survey(sums),
                 Err(fault) => Exit::of_survey_fault(fault, chosen),
             }
         }
@@ -107,7 +107,7 @@ where
             Err(fault) => Exit::of_replay(fault),
         },
         Form::Json => match dv_json::replay(rt, reader, writer, workers, &PlainGate, batches) {
-            Ok(stopped) => Exit::of_run(dv_json::exit_of(Ok(stopped))),
+            Ok(ending) => Exit::of_run(dv_json::exit_of(Ok(ending))),
             Err(fault) => Exit::of_replay(fault),
         },
     }

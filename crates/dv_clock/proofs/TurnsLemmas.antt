@@ -557,7 +557,7 @@ moved zero task u (t ∷ ts) h ne = let same : t ≡ u = cc in first_moved task 
 moved (suc p) task u (t ∷ ts) h ne =
     moved_by p task t u ts (nat_eq task t) (is_among task (take p ts)) (moved p task u ts h ne) refl h
 
--- so it is still the turn of whoever's turn it was
+-- so the turn is still the same task's
 end_by_among : (p task : ℕ) (ts : List ℕ) (among : Bool) → length ts ≤ p → is_among task ts ≡ among
     → length (remove_key (nat_eq task) ts) ≤ (if among then p - 1 else p)
 end_by_among p task ts true h k = let fewer = length-remove_key (nat_eq task) ts k in omega (arith, h, fewer)

@@ -2,7 +2,7 @@
 use Rattle.std.proofs.Common.{◌≡◌, ℕ, false, [], Option, None, Some, refl}
 use Rattle.dv_definition.specs.Cases.{TokensAreWaitedFor, FullQueuesRefuse, FiredListsStay, TurnsFollow, EndedTasksStay}
 use Rattle.dv_definition.specs.Cases.{NameErrorsAreThrown, ErrbacksAreForFailures, ManyJobsAreRefused}
-use Rattle.dv_definition.specs.Cases.{FailuresOfCallsAreTold}
+use Rattle.dv_definition.specs.Cases.{FailuresOfCallsAreTold, UnmetRunsEnd}
 use Rattle.dv_definition.specs.Rule.{Finds, Fires, run}
 use Rattle.dv_definition.specs.Words.{finished, if_unfired}
 use Rattle.dv_objects.specs.declared.performed.Performed.TheVariants.{Done}
@@ -44,3 +44,6 @@ many_jobs_are_refused name pool delay work w full = rw full refl
 
 pub failures_of_calls_are_told : FailuresOfCallsAreTold
 failures_of_calls_are_told name key body w is = rw is refl
+
+pub unmet_runs_end : UnmetRunsEnd
+unmet_runs_end d expected w unmet = rw unmet refl

@@ -5,12 +5,14 @@ use Rattle.dv_definition.specs.Definition.{add, cancel_reached, acquire, put_in,
 use Rattle.dv_definition.specs.Definition.{add_timeout, end_turn, step_ended, await, thread, settle_by, carry_out, act}
 use Rattle.dv_definition.specs.Definition.{perform_rest, run_next}
 use Rattle.dv_definition.specs.Rule.{Fires, run, ◌after_which◌}
+use Rattle.dv_definition.specs.Scripts.{judge}
 use Rattle.dv_definition.specs.Words.{goes_through, is_over}
 use Rattle.dv_frames.specs.Turn.{rest_of}
 use Rattle.dv_frames.specs.declared.frame.Frame.TheVariants as frame
 use Rattle.dv_frames.specs.declared.frame.Inlining.TheVariants.{Goes}
 use Rattle.dv_frames.specs.declared.frame.Purpose.TheVariants.{Named}
 use Rattle.dv_inline.specs.Position.{Position, answered}
+use Rattle.dv_journal.specs.declared.entry.Entry.TheVariants as entry
 use Rattle.dv_objects.specs.Pair.{Pair, errback, holding, watching, ending}
 use Rattle.dv_objects.specs.Refusals.{overflow}
 use Rattle.dv_objects.specs.Works.{is_full}
@@ -26,12 +28,14 @@ use Rattle.dv_script.specs.declared.action.Action.{Action}
 use Rattle.dv_script.specs.declared.action.Action.TheOpen.{Action-F}
 use Rattle.dv_script.specs.declared.body.Body.{Body}
 use Rattle.dv_script.specs.declared.body.End.{End}
+use Rattle.dv_script.specs.declared.expected.Expected.{Expected}
 use Rattle.dv_script.specs.declared.work.Work.{Work}
 use Rattle.dv_store.specs.declared.store.Step.TheVariants.{Handed}
 use Rattle.dv_value.specs.Builtin.{name_error}
 use Rattle.dv_value.specs.Failure.{fault}
 use Rattle.dv_value.specs.declared.failure.Failure.{Failure}
 use Rattle.dv_value.specs.declared.value.Value.{Value, Null, Fault}
+use Rattle.dv_world.specs.Expecting.{is_met, state_at}
 use Rattle.dv_world.specs.World as world
 use Rattle.dv_world.specs.World.{World, deferred_at, is_unfired, make, too_many_jobs}
 
@@ -78,7 +82,7 @@ FiredListsStay =
     → (let after = world.child_fired_in child.list child.place input w in is_unfired child.of after.1 ≡ false
     → run (report child input) w ≡ (frame.Give (Gave after.0.pass) ∷ [], Done, after.1))
 
--- a firing ends the timer
+-- a time-out starts a timer, and adds two pairs, of which the second one ends it
 abbrev pub FiringsEndTimers : Type 0
 FiringsEndTimers =
     (d delay : ℕ) (body : Option Body) (w : World)
@@ -136,3 +140,9 @@ FailuresOfCallsAreTold =
     (name : List ℕ) (key : ℕ) (body : Body) (w : World) → slice_get w.objects.bodies key ≡ Some body
     → run (run_next (Some (what.Call name key))) w
     ≡ (frame.Rest (rest_of None body Null) ∷ frame.Tell ∷ frame.Due ∷ [], Done, w)
+
+-- a Deferred that isn't as the script expects is logged, and the run ends
+abbrev pub UnmetRunsEnd : Type 0
+UnmetRunsEnd =
+    (d : ℕ) (expected : Expected) (w : World) → is_met expected (state_at d w) ≡ false
+    → run (judge d expected) w ≡ ([], Done, world.with_stop (world.tell (entry.Unmet d (state_at d w)) w))

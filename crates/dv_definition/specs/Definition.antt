@@ -260,7 +260,8 @@ hold l body = as_deferred (Holding l) body
 -- adds to each child, in order, the pair that reports to list l, whose Deferred is d
 abbrev pub add_children : ℕ → ℕ → ℕ → List ℕ → List Frame
 add_children l d i [] = []
-add_children l d i (c ∷ cs) = adds c (reporting (record { list = l; place = i; of = d })) and add_children l d (1 + i) cs
+add_children l d i (c ∷ cs) =
+    adds c (reporting (record { list = l; place = i; of = d })) and add_children l d (1 + i) cs
 
 -- whether a list fires at once: it has no children, and no `fireOnOneCallback`
 abbrev pub has_all_at_once : List ℕ → Flags → Bool
@@ -309,7 +310,8 @@ fire_list d due = Finds due finished λ v. if_unfired d (Fires d v) finished
 -- `consumeErrors` a failure becomes null
 abbrev pub report : Child → Value → Rule
 report child input =
-    Asks (ChildFired child.list child.place input) λ answer. fire_list child.of answer.fire after_which gives (Gave answer.pass)
+    Asks (ChildFired child.list child.place input) λ answer.
+    fire_list child.of answer.fire after_which gives (Gave answer.pass)
 
 -- gives what the children gave, from the result of their list; raises TypeError if that isn't such a result (Twisted:
 -- `gatherResults`, but `gather-fired-by-hand`)
@@ -318,8 +320,9 @@ give_gathered input = Finds (seconds_of input) (raise not_gathered) give
 
 -- 12. Time-outs (Twisted: `Deferred.addTimeout`).
 
--- cancels d after so many ticks, unless its second pair has run by then. A timer is started, and d gets two pairs: one
--- turns a cancellation by the timer into TimeoutError, or runs the body that is given for it, and one ends the timer
+-- starts a timer, and adds two pairs to d. After so many ticks d is cancelled, unless the second of these pairs has run
+-- by then. The first turns a failure of CancelledError, or of a class below it, into TimeoutError if the timer has
+-- expired; with a body it runs that instead, on any input. The second ends the timer
 abbrev pub add_timeout : ℕ → ℕ → Option Body → Rule
 add_timeout d delay body =
     next_call λ t.

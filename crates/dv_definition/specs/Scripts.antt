@@ -3,9 +3,11 @@ use Rattle.std.specs.Prelude.{ℕ, zero, suc, ◌≡◌, List, [], ◌∷◌, �
 use Rattle.dv_definition.specs.Definition.{settle, put_in_place, perform_rest, after_canceller, deferred_of, add}
 use Rattle.dv_definition.specs.Definition.{cancel, notify, step_ended, tick, run_due, go_on, go_with, after_awaiting}
 use Rattle.dv_definition.specs.Definition.{answer_of, act}
-use Rattle.dv_definition.specs.Rule.{Rule, Ends, Finds, Meant, say, ◌and_then◌, ◌next◌, ◌after_which◌}
-use Rattle.dv_definition.specs.Steps.{Advance, TellDrain, TellPost, TellUnhandled}
-use Rattle.dv_definition.specs.Words.{finished, raise, ◌and◌, calls, performs, runs_due, tells_failure}
+use Rattle.dv_definition.specs.Rule.{Rule, Ends, If, Finds, Meant, say, ◌and_then◌, ◌next◌, ◌after_which◌}
+use Rattle.dv_definition.specs.Steps.{Advance, TellDrain, TellPost, TellUnhandled, TellMet, TellUnmet, TellUnbound}
+use Rattle.dv_definition.specs.Steps.{StopRun}
+use Rattle.dv_definition.specs.Words.{finished, raise, ◌and◌, calls, performs, runs_due, tells_failure, deferred_or}
+use Rattle.dv_definition.specs.Words.{its_state}
 use Rattle.dv_frames.specs.declared.frame.Frame.{Frame}
 use Rattle.dv_frames.specs.declared.frame.Frame.TheVariants as frame
 use Rattle.dv_frames.specs.declared.frame.Inlining.{Inlining}
@@ -18,8 +20,10 @@ use Rattle.dv_posts.specs.declared.posted.Posted.{Posted}
 use Rattle.dv_script.specs.declared.body.Body.{Body}
 use Rattle.dv_script.specs.declared.event.Event.{Event}
 use Rattle.dv_script.specs.declared.event.Event.TheVariants as event
+use Rattle.dv_script.specs.declared.expected.Expected.{Expected}
 use Rattle.dv_script.specs.declared.script.Script.{Script}
 use Rattle.dv_value.specs.declared.value.Value.{Null}
+use Rattle.dv_world.specs.Expecting.{is_met}
 use Rattle.dv_world.specs.World.{World, first_world}
 
 -- 21. The rules tied together.
@@ -76,6 +80,16 @@ pub data Occurrence : Type 0 where
   Occurs : (event : Event) → Occurrence
   Posts : (posted : Posted) (body : Body) → Occurrence
 
+-- logs what has become of d. If that isn't what the script expects, the run ends
+abbrev pub judge : ℕ → Expected → Rule
+judge d expected =
+    its_state d λ state.
+    If (is_met expected state) (TellMet d state next finished) (TellUnmet d state next StopRun next finished)
+
+-- the same of the Deferred of a name. If the name isn't bound, that is logged, and the run ends
+abbrev pub expect : List ℕ → Expected → Rule
+expect name expected = deferred_or None name (TellUnbound name next StopRun next finished) λ d. judge d expected
+
 -- An action is performed, in which `@` isn't bound; a failure that it raises is logged as unhandled. An advance sets
 -- the time forward, and runs what is due. A drain is logged; its posts occur after it, and `most` decides which batches
 -- fit the script. A post is logged, and its body performed, in which `@` isn't bound; a failure that it raises is
@@ -84,6 +98,7 @@ abbrev pub happens : Occurrence → Rule
 happens (Occurs (event.Action action)) = act None action after_which tells_failure
 happens (Occurs (event.Advance ticks)) = Advance ticks next calls runs_due
 happens (Occurs (event.Drain most)) = TellDrain next finished
+happens (Occurs (event.Expect name expected)) = expect name expected
 happens (Posts posted body) = TellPost posted.caller posted.index next calls (performs None body Null and tells_failure)
 
 -- the world after it
@@ -127,6 +142,8 @@ occurrences callers (event.Action action ∷ events) batches =
     Occurs (event.Action action) ∷ occurrences callers events batches
 occurrences callers (event.Advance ticks ∷ events) batches =
     Occurs (event.Advance ticks) ∷ occurrences callers events batches
+occurrences callers (event.Expect name expected ∷ events) batches =
+    Occurs (event.Expect name expected) ∷ occurrences callers events batches
 occurrences callers (event.Drain most ∷ events) batches =
     Occurs (event.Drain most)
     ∷ (postings callers (next_batch batches) ++ occurrences callers events (later_batches batches))

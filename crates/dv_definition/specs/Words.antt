@@ -9,6 +9,7 @@ use Rattle.dv_frames.specs.declared.frame.Frame.TheVariants as frame
 use Rattle.dv_frames.specs.declared.frame.Inlining.TheVariants.{Goes, Acted, Awaited}
 use Rattle.dv_frames.specs.declared.frame.Purpose.{Purpose}
 use Rattle.dv_inline.specs.Position.{Position}
+use Rattle.dv_journal.specs.declared.state.State.{State}
 use Rattle.dv_objects.specs.Names.{number_of}
 use Rattle.dv_objects.specs.Pair.{Pair}
 use Rattle.dv_objects.specs.Refusals.{unbound}
@@ -27,6 +28,7 @@ use Rattle.dv_value.specs.declared.classes.Class.{Class}
 use Rattle.dv_value.specs.declared.failure.Failure.{Failure}
 use Rattle.dv_value.specs.declared.value.Value.{Value}
 use Rattle.dv_world.specs.Ending.{ended}
+use Rattle.dv_world.specs.Expecting.{state_at}
 use Rattle.dv_world.specs.Found.{deferreds_at}
 use Rattle.dv_world.specs.World.{World, deferred_at, is_unfired, awaited_in, has_timed_out, value_of}
 use Rattle.dv_world.specs.declared.found.Found.{Found}
@@ -175,6 +177,10 @@ what_is_awaited i rule = By λ w. Finds (awaited_in i w) finished rule
 -- the value of d
 abbrev pub its_value : ℕ → (Value → Rule) → Rule
 its_value d rule = By λ w. rule (value_of d w)
+
+-- what has become of d
+abbrev pub its_state : ℕ → (State → Rule) → Rule
+its_state d rule = By λ w. rule (state_at d w)
 
 -- all jobs that were submitted, the clock, how many steps a tick has, and the classes of failures
 abbrev pub all_jobs : (List Work → Rule) → Rule

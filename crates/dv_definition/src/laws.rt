@@ -6,6 +6,7 @@ ghost use Rattle.dv_definition.specs.Cases.{FailuresAreKept, FailuresOfCallsAreT
 ghost use Rattle.dv_definition.specs.Cases.{FiredListsStay, FiringsEndTimers, FullQueuesRefuse};
 ghost use Rattle.dv_definition.specs.Cases.{ManyJobsAreRefused, NameErrorsAreThrown, PairsAreUsed};
 ghost use Rattle.dv_definition.specs.Cases.{ReceiversComeFirst, TokensAreWaitedFor, TurnsFollow};
+ghost use Rattle.dv_definition.specs.Cases.{UnmetRunsEnd};
 ghost use Rattle.dv_definition.specs.Conditions.{CallsComeInTurn, CancelsReach};
 ghost use Rattle.dv_definition.specs.Conditions.{DeferredsWaitWhenTheyHaveTo, EndsLeave};
 ghost use Rattle.dv_definition.specs.Conditions.{FailuresAreThrown};
@@ -56,4 +57,5 @@ pub fn rules_decide_their_cases()
     ensures actions { ErrbacksAreForFailures }
     ensures rest { BodiesGoOn }
     ensures calls { FailuresOfCallsAreTold }
+    ensures expecting { UnmetRunsEnd }
 {}

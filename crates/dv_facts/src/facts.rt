@@ -4,6 +4,7 @@ use dv_journal::deferred_id::DeferredId;
 use dv_journal::entry::Entry;
 use dv_journal::form::{LineForm, Naming, Nesting, ObjectKind};
 use dv_journal::part::{Line, Part, Parts};
+use dv_journal::state::State;
 use dv_value::failure::Failure;
 use dv_value::text::Text;
 use dv_value::value::Value;
@@ -104,6 +105,16 @@ impl<'e> Facts<'e> {
             Part::Outcome(value) | Part::Value(value) => self.shown = Shown::Value(value),
             Part::Failure(failure) => self.shown = Shown::Failure(failure),
             Part::Text(text) => self.shown = Shown::Text(text),
+            Part::State(state) => self.add_state(state),
+        }
+    }
+
+    /// Adds what has become of a Deferred.
+    fn add_state(&mut self, state: &'e State) {
+        match state {
+            State::Unfired => {}
+            State::Waiting(id) => self.add_deferred(*id),
+            State::Fired(value) => self.shown = Shown::Value(value),
         }
     }
 }

@@ -10,9 +10,10 @@ use Rattle.dv_forms.specs.declared.words.ActionWord.{ActionWord}
 use Rattle.dv_forms.specs.declared.words.EventWord.{EventWord}
 use Rattle.dv_forms.specs.declared.words.StatementWord.{StatementWord}
 use Rattle.dv_forms.specs.declared.words.EndWord.{EndWord}
+use Rattle.dv_forms.specs.declared.words.OutcomeWord.{OutcomeWord}
 use Rattle.dv_forms.specs.declared.words.WorkWord.{WorkWord}
 use Rattle.dv_forms.specs.declared.words.TheConstants.{ACTION_FORMS, EVENT_FORMS, STATEMENT_FORMS, LEAVING_FORMS}
-use Rattle.dv_forms.specs.declared.words.TheConstants.{END_FORMS, WORK_FORMS}
+use Rattle.dv_forms.specs.declared.words.TheConstants.{END_FORMS, OUTCOME_FORMS, WORK_FORMS}
 
 -- a form of a word: what each argument has to be, how the form is shown, and the first version that has it
 pub record Form : Type 0 where
@@ -35,6 +36,8 @@ own_forms call.End = map (λ f. record { word = f.1.now; wants = f.2.now; shown 
 own_forms call.Leaving =
     map (λ f. record { word = f.1.now; wants = f.2.now; shown = f.3.now; since = f.4 }) LEAVING_FORMS
 own_forms call.Work = map (λ f. record { word = f.1.now; wants = f.2.now; shown = f.3.now; since = f.4 }) WORK_FORMS
+own_forms call.Outcome =
+    map (λ f. record { word = f.1.now; wants = f.2.now; shown = f.3.now; since = f.4 }) OUTCOME_FORMS
 
 -- the narrower place whose words may stand at such a place, too
 abbrev pub narrower : CallKind → Option CallKind
@@ -44,6 +47,7 @@ narrower call.Statement = None
 narrower call.End = Some call.Leaving
 narrower call.Leaving = None
 narrower call.Work = None
+narrower call.Outcome = None
 
 -- the first, or the second where there is no first
 abbrev pub or_else : {X : Type 0} → Option X → Option X → Option X
@@ -134,3 +138,11 @@ work_words = map (λ f. (f.0, f.1.now)) WORK_FORMS
 -- the work that a text names
 abbrev pub work_word : List ℕ → Option WorkWord
 work_word = named_in work_words
+
+-- the words of what is expected, each with its text
+abbrev pub outcome_words : List (OutcomeWord × List ℕ)
+outcome_words = map (λ f. (f.0, f.1.now)) OUTCOME_FORMS
+
+-- what is expected that a text names
+abbrev pub outcome_word : List ℕ → Option OutcomeWord
+outcome_word = named_in outcome_words

@@ -2,10 +2,11 @@ ghost use Rattle.serde_json.specs.View.{items_view};
 ghost use Rattle.dv_clock.specs.declared.limits.TheConstants.{MOST_DELAY};
 ghost use Rattle.dv_script.specs.declared.limits.TheConstants.{MOST_PLACE, MOST_PLACES};
 ghost use Rattle.dv_forms.specs.Answer.{Reads};
-ghost use Rattle.dv_forms.specs.Parts.{text_at, integer_at, number_at, bound_at, value_at};
-ghost use Rattle.dv_forms.specs.Parts.{class_at, list_flag_at, gather_flag_at, list_at, sole, pair};
-ghost use Rattle.dv_forms.specs.Parts.{triple};
+ghost use Rattle.dv_forms.specs.Parts.{text_at, integer_at, number_at, bound_at, fault_at};
+ghost use Rattle.dv_forms.specs.Parts.{value_at, class_at, list_flag_at, gather_flag_at, list_at};
+ghost use Rattle.dv_forms.specs.Parts.{sole, pair, triple};
 
+use crate::failure::failure;
 use crate::leaf::{
     bound, class, classes_in, gather_flags_in, integer, list_flags_in, number, one, places_in,
     small, text, texts_in, three, two,
@@ -15,6 +16,7 @@ use crate::value::value;
 use dv_clock::limits::MOST_DELAY;
 use dv_script::action::{GatherFlag, ListFlag};
 use dv_script::limits::MOST_PLACES;
+use dv_value::boxed::Boxed;
 use dv_value::class_id::ClassId;
 use dv_value::classes::Classes;
 use dv_value::items::Items;
@@ -38,6 +40,15 @@ pub fn one_value(alloc: Global, classes: &Classes, arguments: &[Json]) -> Result
     ensures { Reads result (sole (value_at classes.now) (items_view arguments.now)) }
 {
     value(alloc, classes, one(arguments)?)
+}
+
+/// A failure alone, as a value.
+#[tactic(auto, unfolding(crate::specs::Parts::sole))]
+pub fn one_fault(alloc: Global, classes: &Classes, arguments: &[Json]) -> Result<Value, ShapeFault>
+    ensures { Reads result (sole (fault_at classes.now) (items_view arguments.now)) }
+{
+    let failure = failure(alloc, classes, one(arguments)?)?;
+    Ok(Value::Fault(Boxed::new(alloc, failure)?))
 }
 
 /// An integer of 64 bits alone.

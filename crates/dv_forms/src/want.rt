@@ -61,6 +61,8 @@ pub enum CallKind {
     /// An end by which an inline body may be left.
     Leaving,
     Work,
+    /// What is expected of a Deferred.
+    Outcome,
 }
 
 /// What kind of pair an array of two parts is, of which none is a word.

@@ -3,7 +3,8 @@
 ghost use Rattle.std.specs.Prelude.{◌≡◌, ◌≤◌, ℕ, true, option_map, map, IfSome};
 ghost use Rattle.dv_forms.specs.declared.want.CallKind.TheVariants.{Action as action};
 ghost use Rattle.dv_forms.specs.Words.{action_word, apart, end_word, event_word, has_word};
-ghost use Rattle.dv_forms.specs.Words.{may_stand, narrower, own_forms, seen, statement_word};
+ghost use Rattle.dv_forms.specs.Words.{may_stand, narrower, outcome_word, own_forms, seen};
+ghost use Rattle.dv_forms.specs.Words.{statement_word};
 ghost use Rattle.dv_forms.specs.Words.{wants_in, wants_of, work_word};
 
 use crate::versions::{FIRST_VERSION, TIMEOUTS_SINCE};
@@ -60,6 +61,7 @@ pub enum ActionWord {
 pub enum EventWord {
     Advance,
     Drain,
+    Expect,
 }
 
 /// The word of a statement.
@@ -93,6 +95,15 @@ pub enum WorkWord {
     Value,
     Raise,
     Sum,
+}
+
+/// The word of what is expected of a Deferred.
+#[derive(Clone, Copy, Drop)]
+pub enum OutcomeWord {
+    Unfired,
+    Waiting,
+    Ok,
+    Fail,
 }
 
 /// A form of a word: the word, its text, what each argument has to be, the form as the tables of
@@ -430,7 +441,7 @@ pub const ACTION_FORMS: [Form<ActionWord>; 41] = [
 ];
 
 /// The forms of the events that are no actions.
-pub const EVENT_FORMS: [Form<EventWord>; 2] = [
+pub const EVENT_FORMS: [Form<EventWord>; 3] = [
     (
         EventWord::Advance,
         "advance",
@@ -444,6 +455,13 @@ pub const EVENT_FORMS: [Form<EventWord>; 2] = [
         &[Want::Leaf(Leaf::Number(0, MOST_DRAINED as u64))],
         "[\"drain\",N]",
         1,
+    ),
+    (
+        EventWord::Expect,
+        "expect",
+        &[DEFERRED, Want::Call(CallKind::Outcome)],
+        "[\"expect\",D,OUTCOME]",
+        3,
     ),
 ];
 
@@ -553,6 +571,20 @@ pub const WORK_FORMS: [Form<WorkWord>; 3] = [
     ),
 ];
 
+/// The forms of what is expected of a Deferred.
+pub const OUTCOME_FORMS: [Form<OutcomeWord>; 4] = [
+    (OutcomeWord::Unfired, "unfired", &[], "[\"unfired\"]", 3),
+    (OutcomeWord::Waiting, "waiting", &[], "[\"waiting\"]", 3),
+    (OutcomeWord::Ok, "ok", &[VALUE], "[\"ok\",VALUE]", 3),
+    (
+        OutcomeWord::Fail,
+        "fail",
+        &[Want::Keyed(Keyed::Failure)],
+        "[\"fail\",FAILURE]",
+        3,
+    ),
+];
+
 /// The narrower place whose words may stand at such a place, too: an action is an event, for one.
 pub fn narrower(call: CallKind) -> Option<CallKind>
     ensures { result ≡ narrower call }
@@ -560,7 +592,11 @@ pub fn narrower(call: CallKind) -> Option<CallKind>
     match call {
         CallKind::Event => Some(CallKind::Action),
         CallKind::End => Some(CallKind::Leaving),
-        CallKind::Action | CallKind::Statement | CallKind::Leaving | CallKind::Work => None,
+        CallKind::Action
+        | CallKind::Statement
+        | CallKind::Leaving
+        | CallKind::Work
+        | CallKind::Outcome => None,
     }
 }
 
@@ -662,6 +698,7 @@ fn own_form(call: CallKind, word: &str, given: usize) -> Option<(&'static [Want]
         CallKind::End => form_in(&END_FORMS, word, given),
         CallKind::Leaving => form_in(&LEAVING_FORMS, word, given),
         CallKind::Work => form_in(&WORK_FORMS, word, given),
+        CallKind::Outcome => form_in(&OUTCOME_FORMS, word, given),
     }
 }
 
@@ -711,6 +748,7 @@ fn may_stand_itself(call: CallKind, word: &str, version: u32) -> bool
         CallKind::End => has_word(&END_FORMS, word, version),
         CallKind::Leaving => has_word(&LEAVING_FORMS, word, version),
         CallKind::Work => has_word(&WORK_FORMS, word, version),
+        CallKind::Outcome => has_word(&OUTCOME_FORMS, word, version),
     }
 }
 
@@ -785,6 +823,7 @@ impl EventWord {
         match text {
             "advance" => Some(EventWord::Advance),
             "drain" => Some(EventWord::Drain),
+            "expect" => Some(EventWord::Expect),
             _ => None,
         }
     }
@@ -836,6 +875,21 @@ impl WorkWord {
             "value" => Some(WorkWord::Value),
             "raise" => Some(WorkWord::Raise),
             "sum" => Some(WorkWord::Sum),
+            _ => None,
+        }
+    }
+}
+
+impl OutcomeWord {
+    /// What is expected that this text names, letter for letter, whatever comes with it.
+    pub fn named(text: &str) -> Option<OutcomeWord>
+        ensures { result ≡ outcome_word text.now }
+    {
+        match text {
+            "unfired" => Some(OutcomeWord::Unfired),
+            "waiting" => Some(OutcomeWord::Waiting),
+            "ok" => Some(OutcomeWord::Ok),
+            "fail" => Some(OutcomeWord::Fail),
             _ => None,
         }
     }

@@ -40,8 +40,8 @@ use Rattle.dv_grammar.specs.Grammar.{AreStatements, no_statements, more_statemen
 use Rattle.dv_grammar.specs.Grammar.{is_delay, is_interval, action_step, body_step, statement_step, times_action}
 use Rattle.dv_grammar.specs.Grammar.{times_body, times_statement}
 use Rattle.dv_forms.specs.Parts.{value_at, each, list_at, text_at, number_at, bound_at, class_at, list_flag_at}
-use Rattle.dv_forms.specs.Parts.{gather_flag_at, call_at, none, first, if_any, one, one_or_two, two_or_three, two, three}
-use Rattle.dv_forms.specs.Parts.{four, five}
+use Rattle.dv_forms.specs.Parts.{gather_flag_at, call_at, none, first, if_any, one, one_or_two, two_or_three, two}
+use Rattle.dv_forms.specs.Parts.{three, four, five}
 use Rattle.dv_forms.specs.Parts.{sole, pair, triple, one_of, two_of, three_of, fields_at, field, if_there}
 use Rattle.dv_grammar.specs.Shape.{end_at, leave_at, work_at, Readers, action_with, action_by, action_of}
 use Rattle.dv_grammar.specs.Shape.{new_deferred_of, timeout_of, thread_in_of, loop_of, by_name_or, keyed_body_by}

@@ -16,6 +16,8 @@ use Rattle.dv_value.specs.declared.failure.Failure.{Failure}
 use Rattle.dv_value.specs.declared.classes.Class.{Class}
 use Rattle.dv_script.specs.declared.body.End.{End}
 use Rattle.dv_script.specs.declared.body.End.TheVariants.{Return, Plus, Raise, Trap, Wait, Run, Throw}
+use Rattle.dv_script.specs.declared.expected.Expected.{Expected}
+use Rattle.dv_script.specs.declared.expected.Expected.TheVariants as expected
 use Rattle.dv_script.specs.declared.work.Work.{Work}
 use Rattle.dv_script.specs.declared.action.ListFlag.{ListFlag}
 use Rattle.dv_script.specs.declared.action.GatherFlag.{GatherFlag}
@@ -27,18 +29,19 @@ use Rattle.dv_forms.specs.Forms.{failure_keys, first_error_keys}
 use Rattle.dv_forms.specs.declared.failure.TheConstants.{MOST_INDEX}
 use Rattle.dv_forms.specs.Leaving.{may_leave}
 use Rattle.dv_forms.specs.declared.words.EndWord.{EndWord}
+use Rattle.dv_forms.specs.declared.words.OutcomeWord.{OutcomeWord}
 use Rattle.dv_forms.specs.declared.words.WorkWord.{WorkWord}
-use Rattle.dv_forms.specs.Words.{end_word, end_words, work_word, work_words}
+use Rattle.dv_forms.specs.Words.{end_word, end_words, outcome_word, outcome_words, work_word, work_words}
 use Rattle.dv_grammar.specs.Grammar.{IsEnd, returns, passes, adds, raises, traps, waits, runs, throws, IsWork, gives}
-use Rattle.dv_grammar.specs.Grammar.{fails, sums}
+use Rattle.dv_grammar.specs.Grammar.{fails, sums, IsOutcome, is_unfired, is_waiting, is_ok, is_failed}
 use Rattle.dv_grammar.specs.Grammar.{IsListFlag, fires_on_callback, fires_on_errback, consumes_errors, IsGatherFlag}
 use Rattle.dv_grammar.specs.Grammar.{gathers_errors, IsBound, no_bound, a_bound}
-use Rattle.dv_forms.specs.Parts.{empty_at, bare_at, plain_at, head_at, first_error_by, failure_at}
+use Rattle.dv_forms.specs.Parts.{empty_at, bare_at, plain_at, head_at, first_error_by, failure_at, fault_at}
 use Rattle.dv_forms.specs.Parts.{sub_at, member_at, members_at}
 use Rattle.dv_forms.specs.Parts.{value_at, each, list_at, text_at, integer_at, number_at, within, bound_at}
 use Rattle.dv_forms.specs.Parts.{class_at, list_flag_at, gather_flag_at, call_at, none, first, if_any, one, two, three}
 use Rattle.dv_forms.specs.Parts.{four, five, sole, pair, triple, one_of, two_of, three_of, fields_at, field}
-use Rattle.dv_grammar.specs.Shape.{end_at, end_of, leave_at, work_at, work_of}
+use Rattle.dv_grammar.specs.Shape.{end_at, end_of, leave_at, outcome_at, outcome_of, work_at, work_of}
 use Rattle.dv_grammar.proofs.Steps.{some_injective, bind, mapped, chosen, either_way}
 use Rattle.dv_grammar.proofs.WordsLemmas.{◌&◌, EachWord, found_word}
 use Rattle.dv_script.specs.declared.work.Work.TheVariants as job
@@ -459,6 +462,37 @@ sound_work table d x e =
     bind (work_word c.0) _ x c_then (λ w w_is w_then.
     rw (call_is d c c_is) (found_word (IsWorkRead table) work_words (sound_works table) c.0 w w_is c.1 x w_then)))
 
+-- what the word of what is expected reads as is in the grammar
+abbrev pub IsOutcomeRead : List Class → OutcomeWord → List ℕ → Type 0
+IsOutcomeRead table word text =
+    (ds : Items) (x : Expected) → outcome_of table word ds ≡ Some x → IsOutcome table (array (item (string text) ds)) x
+
+sound_fault : (table : List Class) (d : Data) (v : Value) → fault_at table d ≡ Some v
+    → (f : Failure) × IsFailure table d f × (Fault f ≡ v)
+sound_fault table d v e =
+    mapped (failure_at table d) Fault v e (λ f f_is f_then. (f, sound_failure table d f f_is, f_then))
+
+pub sound_outcomes : (table : List Class) → EachWord (IsOutcomeRead table) outcome_words
+unfolding outcome_of
+sound_outcomes table =
+    (λ ds x e. bind (none ds) _ x e (λ t t_is made. rw (none_is ds t t_is, ← some_injective made) is_unfired)) &
+    (λ ds x e. bind (none ds) _ x e (λ t t_is made. rw (none_is ds t t_is, ← some_injective made) is_waiting)) &
+    (λ ds x e.
+    one_read (value_at table) expected.Fired ds x e
+    (λ d v ds_is v_is made. rw (ds_is, ← made) (is_ok d v (sound_value table d v v_is)))) &
+    (λ ds x e.
+    one_read (fault_at table) expected.Fired ds x e
+    (λ d v ds_is v_is made. let f = sound_fault table d v v_is in
+    rw (ds_is, ← made, ← f.2) (is_failed d f.0 f.1))) &
+    tt
+
+pub sound_outcome : (table : List Class) (d : Data) (x : Expected) → outcome_at table d ≡ Some x → IsOutcome table d x
+unfolding outcome_at
+sound_outcome table d x e =
+    bind (call_at d) _ x e (λ c c_is c_then.
+    bind (outcome_word c.0) _ x c_then (λ w w_is w_then.
+    rw (call_is d c c_is) (found_word (IsOutcomeRead table) outcome_words (sound_outcomes table) c.0 w w_is c.1 x w_then)))
+
 -- ---- lists, leaves
 
 pub complete_each : {X : Type 0} (Is : Data → X → Type 0) (at : Data → Option X)
@@ -606,3 +640,10 @@ unfolding work_at work_of call_at none first one two sole pair
 complete_work table _ _ (gives d v h) = rw (complete_value table h) refl
 complete_work table _ _ (fails c class text h) = rw (complete_class table c class h) refl
 complete_work table _ _ (sums d n h) = rw (complete_number 0 MOST_SUM d n h) refl
+
+pub complete_outcome : (table : List Class) (d : Data) (x : Expected) → IsOutcome table d x → outcome_at table d ≡ Some x
+unfolding outcome_at outcome_of call_at none first one two sole pair
+complete_outcome table _ _ is_unfired = refl
+complete_outcome table _ _ is_waiting = refl
+complete_outcome table _ _ (is_ok d v h) = rw (complete_value table h) refl
+complete_outcome table _ _ (is_failed d f h) = rw (complete_failure table h) refl

@@ -24,16 +24,17 @@ use Rattle.dv_forms.specs.Table.{table_of}
 use Rattle.dv_forms.specs.declared.words.EventWord.{EventWord}
 use Rattle.dv_forms.specs.Words.{event_word, event_words}
 use Rattle.dv_grammar.specs.Grammar.{cooperator_keys, keys_of, plain_cooperator, IsAction, IsBody, IsEvent, acts}
-use Rattle.dv_grammar.specs.Grammar.{advances, drains, IsDeclaration, declares, IsPool, pools, IsCooperator, IsScript}
+use Rattle.dv_grammar.specs.Grammar.{advances, drains, expects, IsDeclaration, declares, IsPool, pools, IsCooperator, IsScript}
 use Rattle.dv_grammar.specs.Grammar.{IsNamedBody, names_body}
 use Rattle.dv_forms.specs.Parts.{each, list_at, text_at, number_at, within, call_at, none, first, one, two, sole, pair}
 use Rattle.dv_forms.specs.Parts.{fields_at, field, declaration_at, table_for}
 use Rattle.dv_grammar.specs.Shape.{action_by, readers, body_at, action_at, event_by, event_at, event_of, other_event}
-use Rattle.dv_grammar.specs.Shape.{cooperator_at, named_body_at, pool_at, caller_at, script_at}
+use Rattle.dv_grammar.specs.Shape.{cooperator_at, expect_of, named_body_at, outcome_at, pool_at, caller_at, script_at}
 use Rattle.dv_grammar.proofs.Steps.{some_injective, bind}
 use Rattle.dv_grammar.proofs.WordsLemmas.{◌&◌, EachWord, found_word}
 use Rattle.dv_script.specs.declared.event.Event.TheVariants as happens
 use Rattle.dv_grammar.proofs.Leaves.{call_is, one_read, two_read, text_is, array_is, number_is, sound_list, sound_field}
+use Rattle.dv_grammar.proofs.Leaves.{sound_outcome, complete_outcome}
 use Rattle.dv_grammar.proofs.Leaves.{sound_key, fields_is, complete_list, complete_field, complete_key, complete_number}
 use Rattle.dv_grammar.proofs.Actions.{sound_action, sound_readers, depth-get_member, complete_action, complete_body}
 
@@ -42,18 +43,20 @@ use Rattle.dv_grammar.proofs.Actions.{sound_action, sound_readers, depth-get_mem
 -- what the word of this event reads as is in the grammar
 abbrev IsEventRead : List Class → EventWord → List ℕ → Type 0
 IsEventRead table word text =
-    (ds : Items) (x : Event) → event_of word ds ≡ Some x → IsEvent table (array (item (string text) ds)) x
+    (ds : Items) (x : Event) → event_of table word ds ≡ Some x → IsEvent table (array (item (string text) ds)) x
 
 sound_event_words : (table : List Class) → EachWord (IsEventRead table) event_words
-unfolding event_of
+unfolding event_of expect_of
 sound_event_words table =
     (λ ds x e. one_read (number_at 0 MOST_TICKS) happens.Advance ds x e
     (λ d n ds_is n_is made. rw (ds_is, ← made) (advances d n (number_is 0 MOST_TICKS d n n_is)))) &
     (λ ds x e. one_read (number_at 0 MOST_DRAINED) happens.Drain ds x e
     (λ d n ds_is n_is made. rw (ds_is, ← made) (drains d n (number_is 0 MOST_DRAINED d n n_is)))) &
+    (λ ds x e. two_read text_at (outcome_at table) happens.Expect ds x e
+    (λ c f n y ds_is n_is y_is made. rw (ds_is, text_is c n n_is, ← made) (expects n f y (sound_outcome table f y y_is)))) &
     tt
 
-sound_other : (table : List Class) (d : Data) (x : Event) → other_event d ≡ Some x → IsEvent table d x
+sound_other : (table : List Class) (d : Data) (x : Event) → other_event table d ≡ Some x → IsEvent table d x
 unfolding other_event
 sound_other table d x e =
     bind (call_at d) _ x e (λ c c_is c_then.
@@ -70,7 +73,7 @@ sound_event_by table d x None other act happen e = happen x e
 sound_event : (table : List Class) (d : Data) (x : Event) → event_at table d ≡ Some x → IsEvent table d x
 unfolding event_at
 sound_event table d x e =
-    sound_event_by table d x (action_at table max_depth d) (other_event d)
+    sound_event_by table d x (action_at table max_depth d) (other_event table d)
     (sound_action table (readers table max_depth) (sound_readers table max_depth) d) (sound_other table d) e
 
 sound_declaration : (d : Data) (x : Declaration) → declaration_at d ≡ Some x → IsDeclaration d x
@@ -177,10 +180,11 @@ sound_script _ draft e = cc
 
 complete_event : (table : List Class) (d : Data) (e : Event) → depth d ≤ max_depth → IsEvent table d e
     → event_at table d ≡ Some e
-unfolding event_at event_of other_event action_by call_at none first one sole
+unfolding event_at event_of expect_of other_event action_by call_at none first one two sole pair
 complete_event table d _ h (acts _ a g) = rw (complete_action table max_depth g h) refl
 complete_event table _ _ h (advances d n g) = rw (complete_number 0 MOST_TICKS d n g) refl
 complete_event table _ _ h (drains d n g) = rw (complete_number 0 MOST_DRAINED d n g) refl
+complete_event table _ _ h (expects name d x g) = rw (complete_outcome table d x g) refl
 
 complete_each_deep : {X : Type 0} (Is : Data → X → Type 0) (at : Data → Option X)
     → ((d : Data) (x : X) → depth d ≤ max_depth → Is d x → at d ≡ Some x)

@@ -5,7 +5,8 @@ use Rattle.std.specs.Prelude.{codes}
 use Rattle.std.specs.Prelude.{◌&&◌, min, max}
 use Rattle.serde_json.specs.Data.{Data, null, boolean, string, array, object, Items, no_items, item, Members}
 use Rattle.serde_json.specs.Find.{get_member}
-use Rattle.dv_value.specs.declared.value.Value.{Value}
+use Rattle.dv_value.specs.declared.failure.Failure.{Failure}
+use Rattle.dv_value.specs.declared.value.Value.{Value, Fault}
 use Rattle.dv_value.specs.declared.classes.Class.{Class}
 use Rattle.dv_script.specs.declared.body.End.{End}
 use Rattle.dv_script.specs.declared.body.End.TheVariants.{Return, Pass, Plus, Raise, Trap, Wait, Run, Throw}
@@ -23,6 +24,8 @@ use Rattle.dv_script.specs.declared.action.Action.{DelayCall, Loop, StopLoop}
 use Rattle.dv_script.specs.declared.action.Action.{Cooperate, WhenDone, PauseTask, StopTask, ResumeTask, Inline, Thread}
 use Rattle.dv_script.specs.declared.action.Action.{ThreadIn, Units}
 use Rattle.dv_script.specs.declared.event.Event.{Event}
+use Rattle.dv_script.specs.declared.expected.Expected.{Expected}
+use Rattle.dv_script.specs.declared.expected.Expected.TheVariants as expected
 use Rattle.dv_script.specs.declared.script.Cooperator.{Cooperator}
 use Rattle.dv_script.specs.declared.script.NamedBody.{NamedBody}
 use Rattle.dv_script.specs.declared.script.NamedPool.{NamedPool}
@@ -34,6 +37,7 @@ use Rattle.dv_forms.specs.declared.versions.TheConstants.{BODIES_SINCE, LAST_VER
 use Rattle.dv_grammar.specs.declared.draft.Draft.{Draft}
 use Rattle.dv_forms.specs.Leaving.{may_leave}
 use Rattle.dv_forms.specs.Forms.{call, IsList, Field, Key, is_keyed_by, IsText, IsInteger, IsNumber, IsClass, IsValue}
+use Rattle.dv_forms.specs.Forms.{IsFailure}
 use Rattle.dv_forms.specs.Limits.{most_limit}
 use Rattle.dv_forms.specs.Table.{table_of, all_declared}
 use Rattle.std.specs.List.{list_all}
@@ -94,6 +98,18 @@ pub data IsWork (table : List Class) : Data → Work → Type 0 where
       → IsWork table (call (codes "raise") (c ∷ string text ∷ [])) (work.Raise class text)
   -- ["sum",N]
   sums : (d : Data) (n : ℕ) → IsNumber 0 MOST_SUM d n → IsWork table (call (codes "sum") (d ∷ [])) (work.Sum n)
+
+-- OUTCOME: what is expected of a Deferred
+pub data IsOutcome (table : List Class) : Data → Expected → Type 0 where
+  -- ["unfired"]
+  is_unfired : IsOutcome table (call (codes "unfired") []) expected.Unfired
+  -- ["waiting"]
+  is_waiting : IsOutcome table (call (codes "waiting") []) expected.Waiting
+  -- ["ok",VALUE]
+  is_ok : (d : Data) (v : Value) → IsValue table d v → IsOutcome table (call (codes "ok") (d ∷ [])) (expected.Fired v)
+  -- ["fail",FAILURE]
+  is_failed : (d : Data) (f : Failure) → IsFailure table d f
+      → IsOutcome table (call (codes "fail") (d ∷ [])) (expected.Fired (Fault f))
 
 -- FLAG of a list
 pub data IsListFlag : Data → ListFlag → Type 0 where
@@ -296,7 +312,7 @@ mutual
         → AreStatements table ds rest
         → AreStatements table (item d ds) (s ∷ rest)
 
--- an event: an action, or what happens to the clock or to the posts
+-- an event: an action, or what happens to the clock or to the posts, or what is expected
 pub data IsEvent (table : List Class) : Data → Event → Type 0 where
   acts : (d : Data) (a : Action) → IsAction table d a → IsEvent table d (event.Action a)
   -- ["advance",N]
@@ -305,6 +321,9 @@ pub data IsEvent (table : List Class) : Data → Event → Type 0 where
   -- ["drain",N]
   drains : (d : Data) (n : ℕ) → IsNumber 0 MOST_DRAINED d n
       → IsEvent table (call (codes "drain") (d ∷ [])) (event.Drain n)
+  -- ["expect",D,OUTCOME]
+  expects : (name : List ℕ) (d : Data) (x : Expected) → IsOutcome table d x
+      → IsEvent table (call (codes "expect") (string name ∷ d ∷ [])) (event.Expect name x)
 
 -- a class that is declared: [NAME,PARENT]
 pub data IsDeclaration : Data → Declaration → Type 0 where

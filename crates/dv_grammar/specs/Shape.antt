@@ -20,6 +20,8 @@ use Rattle.dv_script.specs.declared.action.Action.{Cooperate, WhenDone, PauseTas
 use Rattle.dv_script.specs.declared.action.Action.{ThreadIn, Units}
 use Rattle.dv_script.specs.declared.event.Event.{Event}
 use Rattle.dv_script.specs.declared.event.Event.TheVariants as happens
+use Rattle.dv_script.specs.declared.expected.Expected.{Expected}
+use Rattle.dv_script.specs.declared.expected.Expected.TheVariants as expected
 use Rattle.dv_script.specs.declared.script.Cooperator.{Cooperator}
 use Rattle.dv_script.specs.declared.script.NamedBody.{NamedBody}
 use Rattle.dv_script.specs.declared.script.NamedPool.{NamedPool}
@@ -38,14 +40,16 @@ use Rattle.dv_forms.specs.declared.words.EndWord.{EndWord}
 use Rattle.dv_forms.specs.declared.words.EndWord.TheVariants as end
 use Rattle.dv_forms.specs.declared.words.StatementWord.{StatementWord}
 use Rattle.dv_forms.specs.declared.words.StatementWord.TheVariants as statement
+use Rattle.dv_forms.specs.declared.words.OutcomeWord.{OutcomeWord}
+use Rattle.dv_forms.specs.declared.words.OutcomeWord.TheVariants as outcome
 use Rattle.dv_forms.specs.declared.words.WorkWord.{WorkWord}
 use Rattle.dv_forms.specs.declared.words.WorkWord.TheVariants as work
-use Rattle.dv_forms.specs.Words.{action_word, event_word, end_word, statement_word, work_word}
+use Rattle.dv_forms.specs.Words.{action_word, event_word, end_word, outcome_word, statement_word, work_word}
 use Rattle.dv_forms.specs.Leaving.{may_leave}
 use Rattle.dv_forms.specs.Limits.{most_limit}
 use Rattle.dv_forms.specs.Parts.{◌>>=◌, bound_at, call_at, class_at, declaration_at, field, fields_at, five, four}
 use Rattle.dv_forms.specs.Parts.{gather_flag_at, if_there, integer_at, list_at, list_flag_at, none, number_at, one_of}
-use Rattle.dv_forms.specs.Parts.{one_or_two, table_for, text_at, three_of, two_of, two_or_three, value_at}
+use Rattle.dv_forms.specs.Parts.{fault_at, one_or_two, table_for, text_at, three_of, two_of, two_or_three, value_at}
 use Rattle.dv_grammar.specs.Grammar.{body_keys, cooperator_keys, keys_of, plain_cooperator, running}
 
 -- an end, by its word
@@ -251,17 +255,40 @@ statement_at table levels = (readers table levels).statement
 abbrev pub action_at : List Class → ℕ → Data → Option Action
 action_at table levels = action_with table (readers table levels)
 
+-- what is expected of a Deferred, by its word
+unfoldable pub outcome_of : List Class → OutcomeWord → Items → Option Expected
+outcome_of table outcome.Unfired ds = do
+  _ ← none ds
+  Some expected.Unfired
+outcome_of table outcome.Waiting ds = do
+  _ ← none ds
+  Some expected.Waiting
+outcome_of table outcome.Ok ds = one_of (value_at table) expected.Fired ds
+outcome_of table outcome.Fail ds = one_of (fault_at table) expected.Fired ds
+
+-- what is expected of a Deferred
+unfoldable pub outcome_at : List Class → Data → Option Expected
+outcome_at table d = do
+  c ← call_at d
+  word ← outcome_word c.0
+  outcome_of table word c.1
+
+-- what is expected of the Deferred of a name
+unfoldable pub expect_of : List Class → Items → Option Event
+expect_of table ds = two_of text_at (outcome_at table) happens.Expect ds
+
 -- an event that is no action, by its word
-unfoldable pub event_of : EventWord → Items → Option Event
-event_of event.Advance ds = one_of (number_at 0 MOST_TICKS) happens.Advance ds
-event_of event.Drain ds = one_of (number_at 0 MOST_DRAINED) happens.Drain ds
+unfoldable pub event_of : List Class → EventWord → Items → Option Event
+event_of table event.Advance ds = one_of (number_at 0 MOST_TICKS) happens.Advance ds
+event_of table event.Drain ds = one_of (number_at 0 MOST_DRAINED) happens.Drain ds
+event_of table event.Expect ds = expect_of table ds
 
 -- an event that is no action
-unfoldable pub other_event : Data → Option Event
-other_event d = do
+unfoldable pub other_event : List Class → Data → Option Event
+other_event table d = do
   c ← call_at d
   word ← event_word c.0
-  event_of word c.1
+  event_of table word c.1
 
 -- an action where there is one, or else another event
 abbrev pub event_by : Option Action → Option Event → Option Event
@@ -270,7 +297,7 @@ event_by None other = other
 
 -- an event
 unfoldable pub event_at : List Class → Data → Option Event
-event_at table d = event_by (action_at table max_depth d) (other_event d)
+event_at table d = event_by (action_at table max_depth d) (other_event table d)
 
 -- a cooperator
 unfoldable pub cooperator_at : Data → Option Cooperator

@@ -5,6 +5,7 @@ mod body;
 mod cooperator;
 mod end;
 mod event;
+mod outcome;
 pub mod script;
 mod statement;
 mod work;

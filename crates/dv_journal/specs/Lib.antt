@@ -1,8 +1,10 @@
+pub mod State
 pub mod Parts
 pub mod Borrowed
 pub mod Forms
 pub mod Entry
 pub mod Told
+pub mod Ending
 pub mod Journal
 pub mod Telling
 pub mod Faults

@@ -9,6 +9,8 @@ use Rattle.dv_journal.specs.declared.form.Naming.{Naming}
 use Rattle.dv_journal.specs.declared.form.Naming.TheVariants as naming
 use Rattle.dv_journal.specs.declared.entry.Entry.{Entry}
 use Rattle.dv_journal.specs.declared.entry.Entry.TheVariants as entry
+use Rattle.dv_journal.specs.declared.state.State as of_state
+use Rattle.dv_journal.specs.State.{state_size}
 
 -- what stands in a line after its word
 pub data Part : Type 0 where
@@ -25,11 +27,12 @@ pub data Part : Type 0 where
   -- the time at which something is due; the time to which the clock advances
   Due : (time : ℕ) → Part
   Time : (time : ℕ) → Part
-  -- what an outcome shows of a value; the JSON of a value; a failure; the JSON of a text
+  -- what an outcome shows of a value; the JSON of a value; a failure; the JSON of a text; what has become of a Deferred
   Outcome : (value : of_value.Value) → Part
   Value : (value : of_value.Value) → Part
   Failure : (failure : of_failure.Failure) → Part
   Text : (text : List ℕ) → Part
+  State : (state : of_state.State) → Part
 
 -- the word of a line, and its other parts
 pub record Wording : Type 0 where
@@ -95,6 +98,9 @@ wording_of entry.Drain = says (codes "drain") []
 wording_of (entry.Post caller index) = says (codes "post") (Number caller ∷ Number index ∷ [])
 wording_of (entry.Body name) = says (codes "body") (Object object.Body naming.Any name ∷ [])
 wording_of (entry.Units units) = says (codes "units") (Number units ∷ [])
+wording_of (entry.Expect id state) = says (codes "expect") (Deferred id ∷ State state ∷ [])
+wording_of (entry.Unmet id state) = says (codes "unmet") (Deferred id ∷ State state ∷ [])
+wording_of (entry.Unbound name) = says (codes "unbound") (Text name ∷ [])
 
 -- the parts after its word
 abbrev pub parts_of : Entry → List Part
@@ -116,3 +122,4 @@ size_shown (Outcome value) = size value
 size_shown (Value value) = size value
 size_shown (Failure failure) = failure_size failure
 size_shown (Text text) = 1 + length text
+size_shown (State state) = state_size state

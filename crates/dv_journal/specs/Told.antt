@@ -34,7 +34,7 @@ pub data Timed : Type 0 where
 -- nothing that is asked for below; or what changes of a Deferred; or that something is scheduled, which is due then; or
 -- that a turn of a loop is; or that something waits no longer: it is run, or is a delayed call that is cancelled; or
 -- that it is scheduled anew, and waits no longer for the time before; or that time goes on to this; or that a failure
--- is unhandled
+-- is unhandled; or that a Deferred isn't as the script expects
 pub data Told : Type 0 where
   Other : Told
   Changes : (change : Change) → Told
@@ -44,6 +44,7 @@ pub data Told : Type 0 where
   Reschedules : (timed : Timed) (due : ℕ) → Told
   Advances : (time : ℕ) → Told
   IsUnhandled : Told
+  IsUnmet : Told
 
 -- what an entry logs
 abbrev pub told_of : Entry → Told
@@ -98,6 +99,9 @@ told_of entry.Drain = Other
 told_of (entry.Post caller index) = Other
 told_of (entry.Body name) = Other
 told_of (entry.Units units) = Other
+told_of (entry.Expect id state) = Other
+told_of (entry.Unmet id state) = IsUnmet
+told_of (entry.Unbound name) = IsUnmet
 
 -- what it logs about Deferreds
 abbrev pub change_in : Told → Change
@@ -109,6 +113,7 @@ change_in (Ends timed) = Aside
 change_in (Reschedules timed due) = Aside
 change_in (Advances time) = Aside
 change_in IsUnhandled = Aside
+change_in IsUnmet = Aside
 
 abbrev pub change_of : Entry → Change
 change_of e = change_in (told_of e)
@@ -123,6 +128,22 @@ is_unhandled_in (Ends timed) = false
 is_unhandled_in (Reschedules timed due) = false
 is_unhandled_in (Advances time) = false
 is_unhandled_in IsUnhandled = true
+is_unhandled_in IsUnmet = false
 
 abbrev pub is_unhandled : Entry → Bool
 is_unhandled e = is_unhandled_in (told_of e)
+
+-- it logs that a Deferred isn't as the script expects
+abbrev pub is_unmet_in : Told → Bool
+is_unmet_in Other = false
+is_unmet_in (Changes change) = false
+is_unmet_in (Schedules timed due) = false
+is_unmet_in (SchedulesTurn due) = false
+is_unmet_in (Ends timed) = false
+is_unmet_in (Reschedules timed due) = false
+is_unmet_in (Advances time) = false
+is_unmet_in IsUnhandled = false
+is_unmet_in IsUnmet = true
+
+abbrev pub is_unmet : Entry → Bool
+is_unmet e = is_unmet_in (told_of e)

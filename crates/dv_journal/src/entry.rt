@@ -3,7 +3,7 @@ ghost use Rattle.dv_journal.specs.Borrowed.{parts_in};
 ghost use Rattle.dv_journal.specs.Entry.{weight_of};
 ghost use Rattle.dv_journal.specs.Forms.{form_in, form_of};
 ghost use Rattle.dv_journal.specs.Parts.{parts_of};
-ghost use Rattle.dv_journal.specs.Told.{is_unhandled};
+ghost use Rattle.dv_journal.specs.Told.{is_unhandled, is_unmet};
 
 use crate::deferred_id::DeferredId;
 use crate::form::Naming::{Any, Last, Made};
@@ -14,6 +14,7 @@ use crate::part::Part::{
 };
 use crate::part::Parts::{Nothing, One, Three, Two};
 use crate::part::{Line, Part};
+use crate::state::State;
 use dv_value::boxed::Boxed;
 use dv_value::failure::Failure;
 use dv_value::text::Text;
@@ -130,6 +131,13 @@ pub enum Entry {
     Body(Text),
     /// `units N`: from its next tick on the cooperator takes so many steps a tick, at most.
     Units(u32),
+    /// `expect #N S`: a Deferred is as the script expects, and S is what has become of it: an
+    /// outcome, `unfired`, or `waiting #E`.
+    Expect(DeferredId, Boxed<State>),
+    /// `unmet #N S`: a Deferred isn't as the script expects, and the run ends.
+    Unmet(DeferredId, Boxed<State>),
+    /// `unbound J`: the script expects something of a name that isn't bound, and the run ends.
+    Unbound(Text),
 }
 
 impl Entry {
@@ -144,6 +152,13 @@ impl Entry {
         ensures { result ≡ is_unhandled self.now }
     {
         matches!(self, Entry::Unhandled(_))
+    }
+
+    /// Whether the entry logs that a Deferred isn't as the script expects, so that the run ends.
+    pub fn is_unmet(&self) -> bool
+        ensures { result ≡ is_unmet self.now }
+    {
+        matches!(self, Entry::Unmet(_, _) | Entry::Unbound(_))
     }
 
     /// The line of the entry in parts.
@@ -244,6 +259,15 @@ impl Entry {
             Entry::Post(caller, index) => Line(forms::POST, Two(Number(*caller), Number(*index))),
             Entry::Body(name) => Line(forms::BODY, One(Object(Body, Any, name))),
             Entry::Units(units) => Line(forms::UNITS, One(Number(*units))),
+            Entry::Expect(id, state) => Line(
+                forms::EXPECT,
+                Two(Deferred(*id), Part::State(state.get())),
+            ),
+            Entry::Unmet(id, state) => Line(
+                forms::UNMET,
+                Two(Deferred(*id), Part::State(state.get())),
+            ),
+            Entry::Unbound(name) => Line(forms::UNBOUND, One(Part::Text(name))),
         }
     }
 

@@ -56,6 +56,9 @@ pub enum PartKind {
     Failure,
     /// The JSON of a text.
     Text,
+    /// What has become of a Deferred: `unfired`, `waiting` and the Deferred that it waits for, or
+    /// an outcome.
+    State,
 }
 
 /// What an entry does to the sections of its run.

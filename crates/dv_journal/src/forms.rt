@@ -7,8 +7,8 @@ ghost use Rattle.dv_journal.specs.declared.entry.Entry.{Entry};
 use crate::form::Naming::{Any, Last, Made};
 use crate::form::ObjectKind::{Body, Call, Lock, Loop, Queue, Task};
 use crate::form::PartKind::{
-    Bound, Deferred, Due, Failure, Fired, Job, Name, NewName, Number, Object, Outcome, Text, Time,
-    Value,
+    Bound, Deferred, Due, Failure, Fired, Job, Name, NewName, Number, Object, Outcome, State, Text,
+    Time, Value,
 };
 use crate::form::{LineForm, Nesting};
 
@@ -125,8 +125,14 @@ pub const BODY: LineForm = row!("body", Plain, Object(Body, Any));
 
 pub const UNITS: LineForm = row!("units", Plain, Number);
 
+pub const EXPECT: LineForm = row!("expect", Plain, Deferred, State);
+
+pub const UNMET: LineForm = row!("unmet", Plain, Deferred, State);
+
+pub const UNBOUND: LineForm = row!("unbound", Plain, Text);
+
 /// The rows, in the order in which the kinds of entries are declared.
-const LINE_FORMS: [LineForm; 51] = [
+const LINE_FORMS: [LineForm; 54] = [
     NEW,
     NAME,
     ADD,
@@ -178,6 +184,9 @@ const LINE_FORMS: [LineForm; 51] = [
     POST,
     BODY,
     UNITS,
+    EXPECT,
+    UNMET,
+    UNBOUND,
 ];
 
 /// The forms of all lines, in the order in which the kinds of entries are declared.

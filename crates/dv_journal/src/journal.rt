@@ -3,8 +3,10 @@ ghost use Rattle.dv_value.specs.Size.{size};
 ghost use Rattle.std.specs.Io.KnownBytes.{Appends};
 ghost use Rattle.dv_journal.specs.Sink.{HasFailed, AppendsPrefix};
 ghost use Rattle.dv_journal.specs.Journal.{empty, total_weight, has_room, fits, with_entry};
+ghost use Rattle.dv_journal.specs.Ending.{ending_of, ends_unmet};
 ghost use Rattle.dv_journal.specs.Line.{text_of};
 
+use crate::ending::Ending;
 use crate::entry::Entry;
 use crate::error::{PrintFault, Stop};
 use crate::line::write_line;
@@ -76,6 +78,19 @@ impl Journal {
         self.entries.as_slice()
     }
 
+    /// How the run that it logs ended, where that has stopped or hasn't.
+    pub fn ending(&self, stopped: bool) -> Ending
+        ensures { result ≡ ending_of stopped self.now.entries }
+    {
+        if !stopped {
+            Ending::Over
+        } else if ends_unmet(self.entries.as_slice()) {
+            Ending::Unmet
+        } else {
+            Ending::AtLimit
+        }
+    }
+
     /// Whether the journal stays within its limit with an entry whose line shows no value, failure
     /// or text.
     pub fn fits_plain(&self) -> bool
@@ -136,5 +151,15 @@ impl Journal {
         }
         write_all(sink, gathered.as_bytes())?;
         Ok(())
+    }
+}
+
+/// Whether the last entry logs that a Deferred isn't as the script expects.
+fn ends_unmet(entries: &[Entry]) -> bool
+    ensures { result ≡ ends_unmet entries.now }
+{
+    match entries.last() {
+        None => false,
+        Some(entry) => entry.is_unmet(),
     }
 }

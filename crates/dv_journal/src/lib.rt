@@ -2,6 +2,7 @@
 #![tactic(auto)]
 
 pub mod deferred_id;
+pub mod ending;
 pub mod entry;
 pub mod error;
 pub mod form;
@@ -12,3 +13,4 @@ pub mod line;
 pub mod memory_sink;
 pub mod part;
 pub mod sink;
+pub mod state;

@@ -2,11 +2,13 @@ ghost use Rattle.std.specs.Fmt.{decimal};
 ghost use Rattle.std.specs.Prelude.{◌≡◌, ◌++◌, OnOk, codes, string_bytes};
 ghost use Rattle.dv_value.specs.ValueText.{outcome};
 ghost use Rattle.dv_journal.specs.Borrowed.{part_in};
-ghost use Rattle.dv_journal.specs.Line.{hash, name_text, bound_text, part_text, words_of, line_of};
+ghost use Rattle.dv_journal.specs.Line.{name_text, bound_text, part_text, words_of, line_of};
+ghost use Rattle.dv_journal.specs.State.{hash, state_text};
 
 use crate::deferred_id::DeferredId;
 use crate::entry::Entry;
 use crate::part::{Line, Part, Parts};
+use crate::state::State;
 use dv_value::classes::Classes;
 use dv_value::text::Text;
 use dv_value::value::Value;
@@ -41,6 +43,31 @@ fn write_bound(out: &mut String, most: Option<u32>) -> Result<(), AllocError>
     }
 }
 
+fn write_waiting(out: &mut String, id: DeferredId) -> Result<(), AllocError>
+    ensures { OnOk result
+        (string_bytes out.new ≡ string_bytes out.old ++ (codes "waiting " ++ hash id)) }
+{
+    write_text(out, "waiting #")?;
+    write_u32(out, id.number())
+}
+
+/// Adds what has become of a Deferred.
+pub fn write_state(
+    alloc: Global,
+    classes: &Classes,
+    out: &mut String,
+    state: &State,
+) -> Result<(), AllocError>
+    ensures { OnOk result
+        (string_bytes out.new ≡ string_bytes out.old ++ state_text classes.now state.now) }
+{
+    match state {
+        State::Unfired => write_text(out, "unfired"),
+        State::Waiting(id) => write_waiting(out, *id),
+        State::Fired(value) => write_outcome(alloc, classes, out, value),
+    }
+}
+
 /// Adds a part after a space.
 #[inline(always)]
 fn write_part(
@@ -64,6 +91,7 @@ fn write_part(
         Part::Value(value) => write_json(alloc, classes, out, value),
         Part::Failure(failure) => write_failure(alloc, classes, out, failure),
         Part::Text(text) => write_string(alloc, out, text.as_str()),
+        Part::State(state) => write_state(alloc, classes, out, state),
     }
 }
 

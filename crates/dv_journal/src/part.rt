@@ -6,6 +6,7 @@ ghost use Rattle.dv_journal.specs.Parts.{size_shown};
 
 use crate::deferred_id::DeferredId;
 use crate::form::{LineForm, Naming, ObjectKind};
+use crate::state::State;
 use dv_value::failure::Failure;
 use dv_value::text::Text;
 use dv_value::value::Value;
@@ -27,6 +28,7 @@ pub enum Part<'e> {
     Value(&'e Value),
     Failure(&'e Failure),
     Text(&'e Text),
+    State(&'e State),
 }
 
 /// The parts of a line after its word, in their order.
@@ -64,6 +66,7 @@ impl<'e> Part<'e> {
             Part::Text(text) => so_far
                 .saturating_add(text.as_str().len() as u64)
                 .saturating_add(1),
+            Part::State(state) => so_far.saturating_add(state.size()),
         }
     }
 }

@@ -1,8 +1,10 @@
 -- How a run ends, by how its parts do.
-use Rattle.std.proofs.Common.{◌≡◌, ℕ, Bool, inl, inr, arith}
+use Rattle.std.proofs.Common.{◌≡◌, ℕ, inl, inr, arith}
 use Rattle.std.proofs.KnownBytes.{Keeps-refl}
 use Rattle.dv_journal.specs.declared.error.PrintFault.{PrintFault}
 use Rattle.dv_journal.specs.declared.error.PrintFault.TheVariants as printing
+use Rattle.dv_journal.specs.Ending.{ending_of}
+use Rattle.dv_journal.specs.declared.ending.Ending.{Ending}
 use Rattle.dv_json.specs.Ended.{Ends}
 use Rattle.dv_json.specs.Lines.{GivesUp, HasRun}
 use Rattle.dv_json.specs.Text.{IsText, Writes, WritesPrefix}
@@ -38,10 +40,10 @@ after_print printing.WriteFault input old new script end says ends written =
 after_print printing.OutOfMemory input old new script end says ends written =
     inr (record { script = script; end = end; says = says; ends = ends; written = written })
 
-pub has_run : (input old new : Told) (script : Script) (end : Marked) (stopped : Bool) → SaysScript input script
-    → Ends script end → stopped ≡ end.remains.stopped
-    → Writes (IsText script.classes end) old new → HasRun input old new stopped
-has_run input old new script end stopped says ends same written =
+pub has_run : (input old new : Told) (script : Script) (end : Marked) (ending : Ending) → SaysScript input script
+    → Ends script end → ending ≡ ending_of end.remains.stopped end.remains.journal.entries
+    → Writes (IsText script.classes end) old new → HasRun input old new ending
+has_run input old new script end ending says ends same written =
     record { script = script; end = end; says = says; ends = ends; same = same; written = written }
 
 pub ruleset endings = (

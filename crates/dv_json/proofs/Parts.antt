@@ -1,14 +1,19 @@
 -- Parts of lines, one after the other.
-use Rattle.std.proofs.Common.{◌≡◌, ℕ, Bool, List, [], ◌++◌, OnOk, Result, Ok, Err, codes, refl, ap, ◌∙◌, append_assoc}
+use Rattle.std.proofs.Common.{◌≡◌, ◌-◌, ℕ, Bool, List, [], ◌++◌, OnOk, Result, Ok, Err, codes, length, refl, ap, ◌∙◌}
+use Rattle.std.proofs.Common.{append_assoc}
 use Rattle.std.specs.Fmt.{decimal}
 use Rattle.dv_facts.proofs.Added.{adds_nothing}
 use Rattle.dv_facts.proofs.Visible.{visible_bool, visible_both, visible_decimal, visible_quoted}
 use Rattle.dv_facts.specs.Parts.{Adds, IsVisible, bool_text}
 use Rattle.dv_journal.specs.Journal.{Written, total_weight}
-use Rattle.dv_journal.specs.Line.{hash, name_text}
+use Rattle.dv_journal.specs.Line.{name_text}
+use Rattle.dv_journal.specs.Ending.{ending_of, is_at_limit}
+use Rattle.dv_journal.specs.State.{hash, state_text}
+use Rattle.dv_journal.specs.declared.ending.Ending.{Ending}
+use Rattle.dv_journal.specs.declared.ending.Ending.TheVariants.{Over, AtLimit, Unmet}
 use Rattle.dv_json.specs.Gathered.{AddsEnd, AddsOutcome, AddsShown}
-use Rattle.dv_json.specs.Text.{IsEndLine, IsOutcomeLine, ended, totals}
-use Rattle.dv_run.specs.Output.{outcome_line, pauses_text, state_text}
+use Rattle.dv_json.specs.Text.{IsEndLine, IsOutcomeLine, ended, totals, unmet_text}
+use Rattle.dv_run.specs.Output.{outcome_line, pauses_text}
 use Rattle.dv_store.specs.declared.outcome.Outcome.{Outcome}
 use Rattle.dv_value.specs.declared.classes.Class.{Class}
 use Rattle.json.specs.Print.{quoted}
@@ -67,43 +72,73 @@ outcome_added (Ok x) table number outcome a b c d e f after before told between 
 outcome_added (Err e') table number outcome a b c d e f after before told between numbered = tt
 
 -- what is printed at the end, member by member
-pub totals_added : {A E : Type 0} (r : Result A E) (limit limit' : ℕ) (stopped : Bool) (time weight weight' : ℕ)
-    (a b c d e f : List ℕ) →
-    OnOk r (f ≡ e ++ codes "}") → limit ≡ limit' → weight ≡ weight' → b ≡ a ++ (codes ",\"limit\":" ++ decimal limit)
+pub totals_added : {A E : Type 0} (r : Result A E) (limit limit' : ℕ) (ending ending' : Ending) (stopped : Bool)
+    (entries entries' time weight weight' : ℕ) (a b c d e f g : List ℕ) →
+    OnOk r (g ≡ f ++ codes "}") → limit ≡ limit' → ending ≡ ending' → stopped ≡ is_at_limit ending
+    → entries ≡ entries' → weight ≡ weight'
+    → b ≡ a ++ (codes ",\"limit\":" ++ decimal limit)
     → c ≡ b ++ (codes ",\"stopped\":" ++ bool_text stopped) →
-    d ≡ c ++ (codes ",\"time\":" ++ decimal time) → e ≡ d ++ (codes ",\"type\":\"end\",\"weight\":" ++ decimal weight)
-    → OnOk r (f ≡ a ++ totals limit' stopped time weight')
-totals_added (Ok x) limit limit' stopped time weight weight' a b c d e f last same same' first second third fourth =
+    d ≡ c ++ (codes ",\"time\":" ++ decimal time)
+    → e ≡ d ++ (codes ",\"type\":\"end\",\"unmet\":" ++ unmet_text ending entries)
+    → f ≡ e ++ (codes ",\"weight\":" ++ decimal weight)
+    → OnOk r (g ≡ a ++ totals limit' ending' entries' time weight')
+totals_added (Ok x) limit limit' ending ending' stopped entries entries' time weight weight' a b c d e f g last same ends
+    halts counts weighs first second third fourth fifth =
     let limited = codes ",\"limit\":" ++ decimal limit in
-    let halted = codes ",\"stopped\":" ++ bool_text stopped in
+    let halted = codes ",\"stopped\":" ++ bool_text (is_at_limit ending) in
     let timed = codes ",\"time\":" ++ decimal time in
-    let weighed = codes ",\"type\":\"end\",\"weight\":" ++ decimal weight in
-    text_next a e f (limited ++ halted ++ timed ++ weighed) (codes "}")
-    (text_next a d e (limited ++ halted ++ timed) weighed
-    (text_next a c d (limited ++ halted) timed (text_next a b c limited halted first second) third) fourth) last
-    ∙ ap (λ (n : ℕ). a ++ totals n stopped time weight) same
-    ∙ ap (λ (n : ℕ). a ++ totals limit' stopped time n) same'
-totals_added (Err e') limit limit' stopped time weight weight' a b c d e f last same same' first second third fourth =
-    tt
+    let missed = codes ",\"type\":\"end\",\"unmet\":" ++ unmet_text ending entries in
+    let weighed = codes ",\"weight\":" ++ decimal weight in
+    let halts_so : c ≡ b ++ halted = second ∙ ap (λ (h : Bool). b ++ (codes ",\"stopped\":" ++ bool_text h)) halts in
+    text_next a f g (limited ++ halted ++ timed ++ missed ++ weighed) (codes "}")
+    (text_next a e f (limited ++ halted ++ timed ++ missed) weighed
+    (text_next a d e (limited ++ halted ++ timed) missed
+    (text_next a c d (limited ++ halted) timed (text_next a b c limited halted first halts_so) third) fourth) fifth) last
+    ∙ ap (λ (n : ℕ). a ++ totals n ending entries time weight) same
+    ∙ ap (λ (x : Ending). a ++ totals limit' x entries time weight) ends
+    ∙ ap (λ (n : ℕ). a ++ totals limit' ending' n time weight) counts
+    ∙ ap (λ (n : ℕ). a ++ totals limit' ending' entries' time n) weighs
+totals_added (Err e') limit limit' ending ending' stopped entries entries' time weight weight' a b c d e f g last same ends
+    halts counts weighs first second third fourth fifth = tt
+
+-- a text that ends in another way
+pub told_as : {A E : Type 0} (r : Result A E) (a b before said meant : List ℕ) → OnOk r (b ≡ a ++ (before ++ said))
+    → said ≡ meant → OnOk r (b ≡ a ++ (before ++ meant))
+told_as (Ok x) a b before said meant told same = told ∙ ap (λ (l : List ℕ). a ++ (before ++ l)) same
+told_as (Err e) a b before said meant told same = tt
+
+visible_unmet : (ending : Ending) (entries : ℕ) → IsVisible (unmet_text ending entries)
+visible_unmet Over entries = refl
+visible_unmet AtLimit entries = refl
+visible_unmet Unmet entries = visible_decimal (entries - 1)
 
 -- what is printed at the end ends no line
-visible_totals : (limit : ℕ) (stopped : Bool) (time weight : ℕ) → IsVisible (totals limit stopped time weight)
-visible_totals limit stopped time weight =
+visible_totals : (limit : ℕ) (ending : Ending) (entries time weight : ℕ)
+    → IsVisible (totals limit ending entries time weight)
+visible_totals limit ending entries time weight =
     let limited = codes ",\"limit\":" ++ decimal limit in
-    let halted = limited ++ (codes ",\"stopped\":" ++ bool_text stopped) in
+    let halted = limited ++ (codes ",\"stopped\":" ++ bool_text (is_at_limit ending)) in
     let timed = halted ++ (codes ",\"time\":" ++ decimal time) in
-    visible_both (timed ++ (codes ",\"type\":\"end\",\"weight\":" ++ decimal weight)) (codes "}")
-    (visible_both timed (codes ",\"type\":\"end\",\"weight\":" ++ decimal weight)
+    let missed = timed ++ (codes ",\"type\":\"end\",\"unmet\":" ++ unmet_text ending entries) in
+    visible_both (missed ++ (codes ",\"weight\":" ++ decimal weight)) (codes "}")
+    (visible_both missed (codes ",\"weight\":" ++ decimal weight)
+    (visible_both timed (codes ",\"type\":\"end\",\"unmet\":" ++ unmet_text ending entries)
     (visible_both halted (codes ",\"time\":" ++ decimal time)
-    (visible_both limited (codes ",\"stopped\":" ++ bool_text stopped) (visible_decimal limit) (visible_bool stopped))
-    (visible_decimal time)) (visible_decimal weight)) refl
+    (visible_both limited (codes ",\"stopped\":" ++ bool_text (is_at_limit ending)) (visible_decimal limit)
+    (visible_bool (is_at_limit ending)))
+    (visible_decimal time)) (visible_unmet ending entries)) (visible_decimal weight)) refl
+
+-- the counts of a journal, of a run that stopped or didn't
+abbrev pub totals_of : Written → Bool → ℕ → List ℕ
+totals_of journal stopped time =
+    totals journal.limit (ending_of stopped journal.entries) (length journal.entries) time (total_weight journal.entries)
 
 -- the line that ends a run, in its parts
 pub end_added : {A E : Type 0} (r : Result A E) (journal : Written) (stopped : Bool) (time : ℕ) (a b c : List ℕ) →
-    OnOk r (c ≡ b ++ totals journal.limit stopped time (total_weight journal.entries)) → Adds a b
+    OnOk r (c ≡ b ++ totals_of journal stopped time) → Adds a b
     → OnOk r (AddsEnd journal stopped a c)
 end_added (Ok x) journal stopped time a b c told before =
-    let last = totals journal.limit stopped time (total_weight journal.entries) in
+    let last = totals_of journal stopped time in
     record {
       line = before.text ++ last;
       grew = text_next a b c before.text last before.is told;
@@ -113,7 +148,8 @@ end_added (Ok x) journal stopped time a b c told before =
         is = refl;
         visible =
             visible_both before.text last before.visible
-            (visible_totals journal.limit stopped time (total_weight journal.entries));
+            (visible_totals journal.limit (ending_of stopped journal.entries) (length journal.entries) time
+            (total_weight journal.entries));
       };
     }
 end_added (Err e) journal stopped time a b c told before = tt
@@ -135,7 +171,7 @@ outcome_exists table number outcome =
 -- there is a line that ends a run
 pub end_exists : (journal : Written) (stopped : Bool) → (line : List ℕ) × IsEndLine journal stopped line
 end_exists journal stopped =
-    let last = totals journal.limit stopped 0 (total_weight journal.entries) in
+    let last = totals_of journal stopped 0 in
     let added : AddsEnd journal stopped [] last =
     end_added {A = ℕ} {E = ℕ} (Ok 0) journal stopped 0 [] [] last refl (adds_nothing []) in
     (added.line, added.is_line)

@@ -1,8 +1,10 @@
 -- How a run in given batches ends, by how its parts do.
-use Rattle.std.proofs.Common.{arith, ◌≡◌, ℕ, Bool, List, inl, inr}
+use Rattle.std.proofs.Common.{arith, ◌≡◌, ℕ, List, inl, inr}
 use Rattle.std.proofs.KnownBytes.{Keeps-refl}
 use Rattle.dv_journal.specs.declared.error.PrintFault.{PrintFault}
 use Rattle.dv_journal.specs.declared.error.PrintFault.TheVariants as printing
+use Rattle.dv_journal.specs.Ending.{ending_of}
+use Rattle.dv_journal.specs.declared.ending.Ending.{Ending}
 use Rattle.dv_json.specs.Ended.{Ends}
 use Rattle.dv_json.specs.Replayed.{GivesUpIn, HasRunIn, RunGivesUpIn}
 use Rattle.dv_json.specs.Text.{IsText, Writes, WritesPrefix}
@@ -50,10 +52,11 @@ after_print printing.OutOfMemory batches input old new script end says ends took
     inr
     (record { script = script; end = end; says = says; ends = record { ends = ends; took = took }; written = written })
 
-pub has_run : (batches : List Batch) (input old new : Told) (script : Script) (end : Marked) (stopped : Bool)
-    → SaysScript input script → Ends script end → end.batches ≡ batches → stopped ≡ end.remains.stopped
-    → Writes (IsText script.classes end) old new → HasRunIn batches input old new stopped
-has_run batches input old new script end stopped says ends took same written = record {
+pub has_run : (batches : List Batch) (input old new : Told) (script : Script) (end : Marked) (ending : Ending)
+    → SaysScript input script → Ends script end → end.batches ≡ batches
+    → ending ≡ ending_of end.remains.stopped end.remains.journal.entries
+    → Writes (IsText script.classes end) old new → HasRunIn batches input old new ending
+has_run batches input old new script end ending says ends took same written = record {
   script = script;
   end = end;
   says = says;

@@ -1,6 +1,8 @@
 -- What a run reads and writes, where it writes JSON Lines.
-use Rattle.std.specs.Prelude.{◌≡◌, ◌⊎◌, Bool}
+use Rattle.std.specs.Prelude.{◌≡◌, ◌⊎◌}
 use Rattle.std.specs.Io.KnownBytes.{Keeps}
+use Rattle.dv_journal.specs.Ending.{ending_of}
+use Rattle.dv_journal.specs.declared.ending.Ending.{Ending}
 use Rattle.dv_json.specs.Ended.{Ends}
 use Rattle.dv_json.specs.Text.{IsText, Writes, WritesPrefix}
 use Rattle.dv_json.specs.declared.marked.Marked.{Marked}
@@ -10,14 +12,13 @@ use Rattle.dv_run.specs.Headline.{Told}
 use Rattle.dv_run.specs.Run.{RefusesInput, SaysScript}
 use Rattle.dv_script.specs.declared.script.Script.{Script}
 
--- the input says a script, which was run to its end, and whose text was written; and whether that run stopped at the
--- limit of its journal
-pub record HasRun (input old new : Told) (stopped : Bool) : Type 0 where
+-- the input says a script, which was run to its end, and whose text was written; and how that run ended
+pub record HasRun (input old new : Told) (ending : Ending) : Type 0 where
   pub script : Script
   pub end : Marked
   pub says : SaysScript input script
   pub ends : Ends script end
-  pub same : stopped ≡ end.remains.stopped
+  pub same : ending ≡ ending_of end.remains.stopped end.remains.journal.entries
   pub written : Writes (IsText script.classes end) old new
 
 -- the input says a script, which was run to its end, and a prefix of the text was written

@@ -1,11 +1,14 @@
 -- The text of a run as JSON Lines.
-use Rattle.std.specs.Prelude.{◌≡◌, ℕ, suc, Bool, List, [], ◌∷◌, ◌++◌, length, codes, flat_map, All}
+use Rattle.std.specs.Prelude.{◌≡◌, ◌-◌, ℕ, suc, Bool, List, [], ◌∷◌, ◌++◌, length, codes, flat_map, All}
 use Rattle.std.specs.Fmt.{decimal}
 use Rattle.std.specs.Io.KnownBytes.{Appends}
 use Rattle.json.specs.Print.{quoted}
 use Rattle.dv_facts.specs.Events.{event_at}
 use Rattle.dv_facts.specs.Lines.{IsEntryLine}
 use Rattle.dv_facts.specs.Parts.{IsVisible, bool_text}
+use Rattle.dv_journal.specs.Ending.{ending_of, is_at_limit}
+use Rattle.dv_journal.specs.declared.ending.Ending.{Ending}
+use Rattle.dv_journal.specs.declared.ending.Ending.TheVariants.{Over, AtLimit, Unmet}
 use Rattle.dv_journal.specs.Journal.{Written, total_weight}
 use Rattle.dv_journal.specs.Sink.{AppendsPrefix}
 use Rattle.dv_json.specs.declared.marked.Marked.{Marked}
@@ -34,19 +37,28 @@ pub record IsOutcomeLine (table : List Class) (number : ℕ) (outcome : Outcome)
       ≡ before ++ (codes ",\"line\":" ++ quoted shown) ++ between ++ (codes ",\"number\":" ++ decimal number) ++ after
   pub visible : IsVisible line
 
--- ,"limit":LIMIT,"stopped":STOPPED,"time":TIME,"type":"end","weight":WEIGHT}
-abbrev pub totals : ℕ → Bool → ℕ → ℕ → List ℕ
-totals limit stopped time weight =
-    (codes ",\"limit\":" ++ decimal limit) ++ (codes ",\"stopped\":" ++ bool_text stopped)
-    ++ (codes ",\"time\":" ++ decimal time)
-    ++ (codes ",\"type\":\"end\",\"weight\":" ++ decimal weight) ++ codes "}"
+-- the number of the last of so many entries, where that logs that a Deferred isn't as the script expects, and else null
+abbrev pub unmet_text : Ending → ℕ → List ℕ
+unmet_text Over entries = codes "null"
+unmet_text AtLimit entries = codes "null"
+unmet_text Unmet entries = decimal (entries - 1)
 
--- the line that ends a run has the limit of the journal, whether the run stopped there, and what the entries weigh
--- together
+-- ,"limit":LIMIT,"stopped":STOPPED,"time":TIME,"type":"end","unmet":ENTRY,"weight":WEIGHT}
+abbrev pub totals : ℕ → Ending → ℕ → ℕ → ℕ → List ℕ
+totals limit ending entries time weight =
+    (codes ",\"limit\":" ++ decimal limit) ++ (codes ",\"stopped\":" ++ bool_text (is_at_limit ending))
+    ++ (codes ",\"time\":" ++ decimal time)
+    ++ (codes ",\"type\":\"end\",\"unmet\":" ++ unmet_text ending entries)
+    ++ (codes ",\"weight\":" ++ decimal weight) ++ codes "}"
+
+-- the line that ends a run has the limit of the journal, whether the run stopped there, the entry of what wasn't as the
+-- script expects, and what the entries weigh together
 pub record IsEndLine (journal : Written) (stopped : Bool) (line : List ℕ) : Type 0 where
   pub before : List ℕ
   pub time : ℕ
-  pub is : line ≡ before ++ totals journal.limit stopped time (total_weight journal.entries)
+  pub is : line
+      ≡ before ++ totals journal.limit (ending_of stopped journal.entries) (length journal.entries) time
+      (total_weight journal.entries)
   pub visible : IsVisible line
 
 -- a line for each item in order, which are numbered from this number on

@@ -10,8 +10,9 @@ use dv_facts::leaving::write_value;
 use dv_facts::members::{
     take_newline, write_index_or_null, write_number, write_quoted, write_quoted_or_null,
 };
+use dv_journal::state::State;
 use dv_run::output::write_line;
-use dv_store::outcome::{Outcome, State};
+use dv_store::outcome::Outcome;
 use dv_value::classes::Classes;
 use dv_value::writing::write_text;
 use std::alloc::{AllocError, Global};

@@ -4,19 +4,21 @@ ghost use Rattle.std.specs.Prelude.{◌≡◌, ◌++◌, [], ◌∷◌, IsErrOf,
 ghost use Rattle.std.specs.Prelude.{string_bytes};
 ghost use Rattle.dv_facts.specs.Events.{event_at};
 ghost use Rattle.dv_facts.specs.Lines.{IsEntryLine};
-ghost use Rattle.dv_facts.specs.Parts.{Adds};
+ghost use Rattle.dv_facts.specs.Parts.{Adds, number_or_null};
+ghost use Rattle.dv_journal.specs.Ending.{ending_of, is_at_limit};
 ghost use Rattle.dv_journal.specs.Journal.{total_weight};
 ghost use Rattle.dv_journal.specs.Sink.{AppendsBut, AppendsPrefix, HasFailed};
 ghost use Rattle.dv_json.specs.Gathered.{AddsEnd, CutsLines, GathersLines, IsEnd};
 ghost use Rattle.dv_json.specs.Text.{AreSoMany, EachHasLine, HasLines, IsOutcomeLine, IsText};
-ghost use Rattle.dv_json.specs.Text.{Writes, WritesPrefix, start_line, totals};
+ghost use Rattle.dv_json.specs.Text.{Writes, WritesPrefix, start_line, totals, unmet_text};
 
 use crate::marked::Marked;
 use crate::outcomes::write_outcome;
 use dv_facts::entries::Story;
 use dv_facts::leaving::Known;
-use dv_facts::members::{write_bool, write_comma, write_number};
+use dv_facts::members::{write_bool, write_comma, write_number, write_number_or_null};
 use dv_jobs::job::Done;
+use dv_journal::ending::Ending;
 use dv_journal::entry::Entry;
 use dv_journal::error::PrintFault;
 use dv_journal::journal::Journal;
@@ -332,13 +334,47 @@ fn write_work(
 fn write_totals(run: Run<'_>, time: u64, out: &mut String) -> Result<(), AllocError>
     ensures { let journal = run.entry.journal.now in
         OnOk result (string_bytes out.new ≡ string_bytes out.old
-        ++ totals journal.limit run.entry.stopped time (total_weight journal.entries)) }
+        ++ totals journal.limit (ending_of run.entry.stopped journal.entries)
+        (length journal.entries) time (total_weight journal.entries)) }
 {
+    let ending = run.journal.ending(run.stopped);
     write_number(out, r#","limit":"#, run.journal.limit())?;
-    write_bool(out, r#","stopped":"#, run.stopped)?;
+    write_bool(out, r#","stopped":"#, is_at_limit(ending))?;
     write_number(out, r#","time":"#, time)?;
-    write_number(out, r#","type":"end","weight":"#, run.journal.weight())?;
+    write_unmet(out, ending, run.journal.entries().len())?;
+    write_number(out, r#","weight":"#, run.journal.weight())?;
     write_text(out, "}")
+}
+
+/// Whether a run stopped at the limit of its journal.
+fn is_at_limit(ending: Ending) -> bool
+    ensures { result ≡ is_at_limit ending }
+{
+    match ending {
+        Ending::AtLimit => true,
+        Ending::Over | Ending::Unmet => false,
+    }
+}
+
+/// Adds the number of the last of so many entries, where that logs that a Deferred isn't as the
+/// script expects, and else null.
+fn write_unmet(out: &mut String, ending: Ending, entries: usize) -> Result<(), AllocError>
+    ensures { OnOk result (string_bytes out.new ≡ string_bytes out.old
+        ++ (codes ",\"type\":\"end\",\"unmet\":" ++ unmet_text ending entries)) }
+{
+    let unmet = unmet_entry(ending, entries);
+    write_number_or_null(out, r#","type":"end","unmet":"#, unmet)
+}
+
+/// The number of the last of so many entries, where that logs that a Deferred isn't as the script
+/// expects.
+fn unmet_entry(ending: Ending, entries: usize) -> Option<u64>
+    ensures { number_or_null result ≡ unmet_text ending entries }
+{
+    match ending {
+        Ending::Unmet => Some(entries.saturating_sub(1) as u64),
+        Ending::Over | Ending::AtLimit => None,
+    }
 }
 
 #[tactic(auto, using(dv_facts::proofs::Added::parts))]

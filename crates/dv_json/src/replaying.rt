@@ -6,6 +6,7 @@ ghost use Rattle.dv_script.specs.declared.limits.TheConstants.{MOST_WORKERS};
 use crate::driving::Marking;
 use crate::printing::print_run;
 use dv_jobs::gate::Gate;
+use dv_journal::ending::Ending;
 use dv_journal::sink::Sink;
 use dv_posts::posted::Posted;
 use dv_replay::error::ReplayFault;
@@ -20,7 +21,7 @@ use std::sync::Wait;
 use std::thread::Threads;
 
 /// Reads a script to the end of the input, performs it in these batches as `dv_replay` does, and
-/// writes what `run` writes. Answers whether the run stopped at the limit of its journal.
+/// writes what `run` writes. Answers how the run ended.
 ///
 /// BatchesRefused where the batches aren't an order of the script: nothing was performed, and
 /// nothing written.
@@ -32,7 +33,7 @@ pub fn replay<S, R, W, G>(
     workers: u32,
     gate: &G,
     batches: &[Items<Posted>],
-) -> Result<bool, ReplayFault>
+) -> Result<Ending, ReplayFault>
 where
     S: Threads + Wait + RandomSource + AllocGlobal + Sync,
     R: Source,
@@ -53,11 +54,11 @@ where
         script.discard();
         return Err(ReplayFault::Run(RunFault::OutOfMemory));
     };
-    let stopped = marked.remains.stopped;
+    let ending = marked.remains.journal.ending(marked.remains.stopped);
     let printed = print_run(alloc, &script.classes, marked, writer);
     script.discard();
     match printed {
-        Ok(()) => Ok(stopped),
+        Ok(()) => Ok(ending),
         Err(fault) => Err(ReplayFault::Run(fault.into())),
     }
 }

@@ -8,6 +8,7 @@ use crate::driving::Marking;
 use crate::marked::Marked;
 use crate::printing::print_run;
 use dv_jobs::gate::Gate;
+use dv_journal::ending::Ending;
 use dv_journal::sink::Sink;
 use dv_run::error::RunFault;
 use dv_run::exit::{fault_status, fault_text, status_of};
@@ -21,7 +22,7 @@ use std::thread::Threads;
 
 /// Reads a script to the end of the input, performs it as `dv_run::run` does, and writes what
 /// happened, what became of each Deferred and what is left, a line of JSON an object. Answers
-/// whether the run stopped at the limit of its journal.
+/// how the run ended.
 ///
 /// ScriptRefused where the input says no script, and ReadFault where the reader fails: nothing was
 /// written. OutOfMemory where allocation fails, and WriteFault where the writer fails or takes no
@@ -33,7 +34,7 @@ pub fn run<S, R, W, G>(
     writer: &mut W,
     workers: u32,
     gate: &G,
-) -> Result<bool, RunFault>
+) -> Result<Ending, RunFault>
 where
     S: Threads + Wait + RandomSource + AllocGlobal + Sync,
     R: Source,
@@ -54,23 +55,23 @@ where
         script.discard();
         return Err(RunFault::OutOfMemory);
     };
-    let stopped = marked.remains.stopped;
+    let ending = marked.remains.journal.ending(marked.remains.stopped);
     let printed = print_run(alloc, &script.classes, marked, writer);
     script.discard();
     match printed {
-        Ok(()) => Ok(stopped),
+        Ok(()) => Ok(ending),
         Err(fault) => Err(fault.into()),
     }
 }
 
 /// The exit status of a run, and what goes to standard error: a line of this text, or nothing where
 /// it is empty. They are those of `dv_run::exit::exit_of`.
-pub fn exit_of(ended: Result<bool, RunFault>) -> (u8, &'static str)
+pub fn exit_of(ended: Result<Ending, RunFault>) -> (u8, &'static str)
     ensures status { result.0 ≡ status ended }
     ensures text { result.1.now ≡ error_text ended }
 {
     match ended {
-        Ok(stopped) => (status_of(stopped), ""),
+        Ok(ending) => (status_of(ending), ""),
         Err(fault) => (fault_status(fault), fault_text(fault)),
     }
 }

@@ -37,6 +37,7 @@ place_name call.Statement = codes "statement"
 place_name call.End = codes "end"
 place_name call.Leaving = codes "leaving"
 place_name call.Work = codes "work"
+place_name call.Outcome = codes "outcome"
 
 -- what has keys
 abbrev pub keyed_name : Keyed → List ℕ

@@ -15,6 +15,7 @@ places_of call.Statement = call.Statement ∷ []
 places_of call.End = call.End ∷ []
 places_of call.Leaving = call.End ∷ call.Leaving ∷ []
 places_of call.Work = call.Work ∷ []
+places_of call.Outcome = call.Outcome ∷ []
 
 -- the same by name
 abbrev pub places_data : CallKind → Data
@@ -35,4 +36,4 @@ rows_of c = map (form_data c) (own_forms c)
 abbrev pub words_data : Data
 words_data =
     array (items_of (rows_of call.Event ++ (rows_of call.Action
-    ++ (rows_of call.Statement ++ (rows_of call.Leaving ++ (rows_of call.End ++ rows_of call.Work))))))
+    ++ (rows_of call.Statement ++ (rows_of call.Leaving ++ (rows_of call.End ++ (rows_of call.Work ++ rows_of call.Outcome)))))))

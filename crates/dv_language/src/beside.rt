@@ -46,7 +46,7 @@ pub const CLASSES: [(&str, Option<&str>); 21] = [
 ];
 
 /// The exit statuses of the program, and when it ends with each.
-pub const STATUSES: [(u32, &str); 9] = [
+pub const STATUSES: [(u32, &str); 10] = [
     (0, "all events were performed, or the script is accepted"),
     (1, "the run stopped at the limit of its journal"),
     (2, "the script is refused: --why says where"),
@@ -58,6 +58,7 @@ pub const STATUSES: [(u32, &str); 9] = [
     ),
     (6, "--orders: the orders end in several ways"),
     (7, "--orders: there are more orders than --most allows"),
+    (8, "a Deferred wasn't as the script expects"),
     (64, "the words are wrong"),
 ];
 

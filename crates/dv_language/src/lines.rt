@@ -74,6 +74,7 @@ fn part_json(alloc: Global, part: PartKind) -> Result<Json, AllocError>
         PartKind::Value => json!(in alloc; {"type": "value"}),
         PartKind::Failure => json!(in alloc; {"type": "failure"}),
         PartKind::Text => json!(in alloc; {"type": "text"}),
+        PartKind::State => json!(in alloc; {"type": "state"}),
     }
 }
 

@@ -42,6 +42,7 @@ pub fn place_name(call: CallKind) -> &'static str
         CallKind::End => "end",
         CallKind::Leaving => "leaving",
         CallKind::Work => "work",
+        CallKind::Outcome => "outcome",
     }
 }
 

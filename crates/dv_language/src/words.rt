@@ -8,7 +8,8 @@ ghost use Rattle.dv_language.specs.Words.{form_data, places_data, words_data};
 use crate::wants::wants_json;
 use dv_forms::want::CallKind;
 use dv_forms::words::{
-    ACTION_FORMS, END_FORMS, EVENT_FORMS, Form, LEAVING_FORMS, STATEMENT_FORMS, WORK_FORMS,
+    ACTION_FORMS, END_FORMS, EVENT_FORMS, Form, LEAVING_FORMS, OUTCOME_FORMS, STATEMENT_FORMS,
+    WORK_FORMS,
 };
 use serde_json::{Value as Json, json, push};
 use std::alloc::{AllocError, Global};
@@ -24,6 +25,7 @@ fn places_json(alloc: Global, call: CallKind) -> Result<Json, AllocError>
         CallKind::End => json!(in alloc; ["end"]),
         CallKind::Leaving => json!(in alloc; ["end", "leaving"]),
         CallKind::Work => json!(in alloc; ["work"]),
+        CallKind::Outcome => json!(in alloc; ["outcome"]),
     }
 }
 
@@ -66,5 +68,6 @@ pub fn words_json(alloc: Global) -> Result<Json, AllocError>
     push_forms(alloc, &mut rows, CallKind::Leaving, &LEAVING_FORMS)?;
     push_forms(alloc, &mut rows, CallKind::End, &END_FORMS)?;
     push_forms(alloc, &mut rows, CallKind::Work, &WORK_FORMS)?;
+    push_forms(alloc, &mut rows, CallKind::Outcome, &OUTCOME_FORMS)?;
     Ok(Json::Array(rows))
 }

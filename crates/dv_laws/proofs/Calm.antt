@@ -133,6 +133,7 @@ ReachesNoWaiter r = Unit {0}
 pub record Quiet (R : World → World → Type 0) : Type 0 where
   pub stays : (w : World) → R w w
   pub joins : (u v w : World) → R u v → R v w → R u w
+  pub by_stop : (w : World) → R w (with_stop w)
   pub by_make : (name : Option (List ℕ)) (canceller : Option Canceller) (w : World) → R w (make name canceller w)
   pub by_cancel : (d : ℕ) (w : World) → ReachesNoWaiter (cancel d w).0 → R w (cancel d w).1
   pub by_pause : (d : ℕ) (w : World) → R w (pause d w)
@@ -165,7 +166,7 @@ pub record IsMade (by : Canceller) (d : ℕ) (rs : Records) : Type 0 where
   pub leaves : made.canceller ≡ Some by
   pub fresh : made.swallows ≡ false
 
--- whoever got a value is fired with it
+-- a Deferred that got a value is fired with it
 abbrev pub handed : Option (ℕ × Value) → World → World
 handed None w = w
 handed (Some who) w = (fire who.0 who.1 w).1
@@ -178,7 +179,7 @@ handed_to d (Some value) w = (fire d value w).1
 abbrev pub asking : ℕ → Semaphore → Option ℕ
 asking d s = if has_free s then Some d else None
 
--- whoever is granted one is fired with the name of the lock
+-- a Deferred that is granted one is fired with the name of the lock
 abbrev pub granted : Option ℕ → List ℕ → World → World
 granted None name w = w
 granted (Some d) name w = (fire d (Text name) w).1
@@ -284,7 +285,8 @@ loop_beside e old new t a b c p q r = record {
 child_fired_comes : (l i : ℕ) (v : Value) (o : Option Gather) (w : World) → Quietly w (child_fired_found l i v o w).1
 child_fired_comes l i v None w = same w
 child_fired_comes l i v (Some g) w =
-    by_arrange (with_list l (child_fired i v g).1) w (refl, refl) Stays (λ k. k) (arranging _ _ refl refl refl refl refl) refl
+    by_arrange (with_list l (child_fired i v g).1) w (refl, refl) Stays (λ k. k)
+    (arranging _ _ refl refl refl refl refl) refl
 
 child_fired_in_comes : (l i : ℕ) (v : Value) (w : World) → Quietly w (child_fired_in l i v w).1
 unfolding child_fired_in
@@ -547,7 +549,7 @@ upcoming_comes (Some call) w h =
 -- Steps: all but those by which a Deferred is settled and time goes on.
 
 -- a Deferred to which a pair is added is settled at once, and so is one that is fired since it was cancelled, directly
--- after the cancel; whoever is granted a token is fired at once
+-- after the cancel; a Deferred that is granted a token is fired at once
 abbrev pub IsQuiet : steps.Step → Type 0
 IsQuiet (steps.Put d v) = ⊥
 IsQuiet (steps.PutDeferred d e) = ⊥
@@ -665,6 +667,16 @@ step_quiet steps.TellDrain w m =
 step_quiet (steps.TellPost caller index) w m =
     by_aside (entry.Post caller index) _ w refl (tt, tt) (λ k. Leaves (refl, refl, refl)) (λ k. k)
     (resting _ _ _ refl refl refl refl refl refl refl refl refl) refl
+step_quiet (steps.TellMet d state) w m =
+    by_aside (entry.Expect d state) _ w refl (tt, tt) (λ k. Leaves (refl, refl, refl)) (λ k. k)
+    (resting _ _ _ refl refl refl refl refl refl refl refl refl) refl
+step_quiet (steps.TellUnmet d state) w m =
+    by_aside (entry.Unmet d state) _ w refl (tt, tt) (λ k. Leaves (refl, refl, refl)) (λ k. k)
+    (resting _ _ _ refl refl refl refl refl refl refl refl refl) refl
+step_quiet (steps.TellUnbound name) w m =
+    by_aside (entry.Unbound name) _ w refl (tt, tt) (λ k. Leaves (refl, refl, refl)) (λ k. k)
+    (resting _ _ _ refl refl refl refl refl refl refl refl refl) refl
+step_quiet steps.StopRun w m = record { keeps = λ R l. l.by_stop w }
 step_quiet (steps.Put d v) w m = absurd m
 step_quiet (steps.PutDeferred d e) w m = absurd m
 

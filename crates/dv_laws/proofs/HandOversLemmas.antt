@@ -186,10 +186,12 @@ turns m = record {
   sets = λ d value r s x h. plain m (entry.Set d value) _ s refl refl (set_same m d r (with_result value r) s.0 h refl);
   waits = λ d e r given s x h g.
       let first = changing e (with_item (item.HandOver d)) s.0 in
-      tells m (entry.Wait d e) _ s (changing_same m d (chaining.with_wait e) first (λ y. refl) ∙ more_at m d e (slice_get s.0 e) given s.0 g refl);
+      tells m (entry.Wait d e) _ s (changing_same m d (chaining.with_wait e) first (λ y. refl)
+      ∙ more_at m d e (slice_get s.0 e) given s.0 g refl);
   takes = λ d e r given s x h g p.
       let first = changing e chaining.without_value s.0 in
-      plain m (entry.Take d e given.value) _ s refl refl (changing_same m d (with_result given.value) first (λ y. refl) ∙ changing_same m e chaining.without_value s.0 (λ y. refl));
+      plain m (entry.Take d e given.value) _ s refl refl (changing_same m d (with_result given.value) first (λ y. refl)
+      ∙ changing_same m e chaining.without_value s.0 (λ y. refl));
   pauses = λ d r s x h. plain m (entry.Pause d) _ s refl refl (set_same m d r _ s.0 h refl);
   unpauses = λ d r s x h p. plain m (entry.Unpause d) _ s refl refl (set_same m d r _ s.0 h refl);
 }

@@ -48,7 +48,7 @@ use Rattle.dv_loop.proofs.StepsCome.{step_comes, question_comes}
 use Rattle.dv_world.specs.World as world
 use Rattle.dv_world.specs.World.{World, Records, state_of, step, put, put_deferred, first_world, value_of}
 use Rattle.dv_laws.proofs.At.{counted_of, at, set_by, changing_at, changing_by}
-use Rattle.dv_laws.proofs.Mild.{Mild, IsMild, side_mild, turned_mild, action_mild, drain_mild}
+use Rattle.dv_laws.proofs.Mild.{Mild, IsMild, side_mild, turned_mild, action_mild, drain_mild, expect_mild}
 use Rattle.dv_laws.proofs.Mild.{post_comes}
 use Rattle.dv_laws.proofs.Made.{is_there, not_there, grows, Bound, none_bound, Made, MadeResult, Holds, rule_holds}
 use Rattle.dv_laws.proofs.Made.{all_on, all_append}
@@ -325,6 +325,8 @@ happens_same (Occurs (event.Advance ticks)) w n =
     aside_cases w (λ u. running_at n u ≡ running_at n w) refl refl (entry.Advance _) (with_time _) (λ x. refl)
 happens_same (Occurs (event.Drain most)) w n =
     ((drain_mild w).comes.keeps SameRunning (calm SameRunning same_running)).same n
+happens_same (Occurs (event.Expect name expected)) w n =
+    ((expect_mild name expected w).comes.keeps SameRunning (calm SameRunning same_running)).same n
 happens_same (Posts posted body) w n =
     ((post_comes posted.caller posted.index w).keeps SameRunning (calm SameRunning same_running)).same n
 

@@ -58,7 +58,7 @@ use Rattle.dv_laws.proofs.At.{counted_of, at, set_at, changing_at}
 use Rattle.dv_laws.proofs.Calm.{Quiet, step_quiet, question_quiet}
 use Rattle.dv_laws.proofs.Stays.{step_stays, put_stays, put_deferred_stays, append_stays, make_stays, fire_stays}
 use Rattle.dv_laws.proofs.Stays.{fire_then_swallow_stays, cancel_stays, pause_stays, unpause_stays, aside_stays}
-use Rattle.dv_laws.proofs.Stays.{arrange_stays, submit_stays}
+use Rattle.dv_laws.proofs.Stays.{arrange_stays, stop_stays, submit_stays}
 use Rattle.dv_laws.proofs.Steps.{telling_in, put_cases, put_deferred_cases, append_cases, pause_cases, make_cases}
 use Rattle.dv_laws.proofs.Steps.{aside_cases, arrange_cases, submit_cases, cancel_cases, unpause_cases, fire_cases}
 use Rattle.dv_laws.proofs.Steps.{step_cases, unless, unless_and, put_into_cases, get_from_cases}
@@ -137,6 +137,7 @@ lasting_on : Lasting On
 lasting_on = record {
   stays = λ w. record { going = λ h. h };
   joins = λ u v w p q. record { going = λ h. p.going (q.going h) };
+  by_stop = λ w. on w (with_stop w) (stop_stays w);
   by_step = λ d w. on w (step d w).1 (step_stays d w);
   by_put = λ d value w. on w (put d value w) (put_stays d value w);
   by_put_deferred = λ d e w. on w (put_deferred d e w) (put_deferred_stays d e w);
@@ -237,6 +238,7 @@ quiet_bound : Quiet BoundAfter
 quiet_bound = record {
   stays = λ w. record { goes_on = λ b. b };
   joins = λ u v w p q. record { goes_on = λ b. q.goes_on (p.goes_on b) };
+  by_stop = bound_stop;
   by_make = λ name canceller w. make_cases w (BoundAfter w) (record { goes_on = λ b. b }) (bound_stop w) name canceller
       (λ x. record { goes_on = made_names name canceller w });
   by_cancel = λ d w m. record {

@@ -329,4 +329,8 @@ pub happens_sound : (occurrence : Occurrence) (w : World) → Sound w (scripts.h
 happens_sound (Occurs (event.Action action)) w = (carry_sound None (out-Action action) w, (tt, tt))
 happens_sound (Occurs (event.Advance ticks)) w = (tt, (tt, (tt, tt)))
 happens_sound (Occurs (event.Drain most)) w = (tt, tt)
+happens_sound (Occurs (event.Expect name expected)) w = (
+  (tt, (tt, tt)),
+  λ d h. ((tt, tt), (tt, (tt, tt))),
+)
 happens_sound (Posts posted body) w = (tt, (tt, (tt, (tt, tt))))

@@ -6,6 +6,7 @@ use Rattle.dv_value.specs.declared.value.Value.{Value, Text}
 use Rattle.dv_journal.specs.declared.entry.Entry.TheVariants as entry
 use Rattle.dv_prims.specs.Tokens.{Semaphore, is_unheld, first_waiting}
 use Rattle.dv_prims.specs.declared.gather.Flags.{Flags}
+use Rattle.dv_script.specs.declared.expected.Expected.{Expected}
 use Rattle.dv_script.specs.declared.action.Action.{Action, out-Action}
 use Rattle.dv_script.specs.declared.action.Action.TheOpen.{Action-F}
 use Rattle.dv_clock.specs.declared.due.Due.{Due}
@@ -700,6 +701,16 @@ drain_mild w = record {
       (resting _ _ _ refl refl refl refl refl refl refl refl refl) refl);
   free = tt;
 }
+
+-- what is expected is logged, and may end the run
+pub expect_mildly : (name : List ℕ) (expected : Expected) (w : World) → Mildly None w (scripts.expect name expected)
+expect_mildly name expected w = (
+  (tt, tt, (tt, tt, tt)),
+  λ d is. (λ met. (tt, tt, tt), λ unmet. (tt, tt, (tt, tt, tt))),
+)
+
+pub expect_mild : (name : List ℕ) (expected : Expected) (w : World) → Mild w (run (scripts.expect name expected) w)
+expect_mild name expected w = run_mild (scripts.expect name expected) w (expect_mildly name expected w)
 
 pub post_comes : (caller index : ℕ) (w : World) → Calmly w (world.tell (entry.Post caller index) w)
 post_comes caller index w =

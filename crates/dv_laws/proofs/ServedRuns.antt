@@ -293,7 +293,7 @@ module _ (S : Sought) (name : List ℕ) where
       live (Goes S name w) w (cancel d w).1 (stays S name w) (cancel_stays d w)
       (λ s. cancel_cases w (Goes S name w) (stays S name w) (stops S name w) d (λ x. cancel_rests S name d w s m x))
 
-  -- whoever got a value, or was granted a token, is fired
+  -- a Deferred that got a value, or was granted a token, is fired
   handed_goes : (o : Option (ℕ × Value)) (w : World) → Goes S name w (handed o w)
   handed_goes None w = stays S name w
   handed_goes (Some who) w = fire_goes_on who.0 who.1 w
@@ -446,6 +446,7 @@ module _ (S : Sought) (name : List ℕ) where
     quiet = record {
       stays = stays S name;
       joins = joins S name;
+      by_stop = stops S name;
       by_make = λ given canceller w.
           live (Goes S name w) w (make given canceller w) (stays S name w) (make_stays given canceller w)
           (λ s. make_cases w (Goes S name w) (stays S name w) (stops S name w) given canceller

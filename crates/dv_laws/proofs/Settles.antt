@@ -54,7 +54,7 @@ use Rattle.dv_journal.specs.Journal.{Written}
 use Rattle.dv_world.specs.World.{first_world, value_of}
 use Rattle.dv_laws.proofs.At.{counted_of, at, first_at, set_at, changing_at, push_at, set_by, changing_by}
 use Rattle.dv_laws.proofs.Mild.{Mild, PutsNothing, AllPutNothing, side_mild, turned_mild, action_mild}
-use Rattle.dv_laws.proofs.Mild.{drain_mild, post_comes}
+use Rattle.dv_laws.proofs.Mild.{drain_mild, expect_mild, post_comes}
 use Rattle.dv_laws.proofs.Stays.{live, step_stays, put_stays, put_deferred_stays, aside_stays}
 use Rattle.dv_laws.proofs.Still.{Still, calm}
 use Rattle.dv_laws.proofs.Steps.{telling_in, put_cases, put_deferred_cases}
@@ -468,6 +468,11 @@ module _ (R : World → World → Type 0) (k : Settles R) where
   happens_keeps (Occurs (event.Drain most)) w u h =
       let t = happening (Occurs (event.Drain most)) w in
       let m = drain_mild w in
+      k.calm.quiet.joins w t.2 u (m.comes.keeps R k.calm)
+      (gives_keeps t.0 t.1 t.2 h.0 u h.1 (free_stands t.0 t.2 m.free))
+  happens_keeps (Occurs (event.Expect name expected)) w u h =
+      let t = happening (Occurs (event.Expect name expected)) w in
+      let m = expect_mild name expected w in
       k.calm.quiet.joins w t.2 u (m.comes.keeps R k.calm)
       (gives_keeps t.0 t.1 t.2 h.0 u h.1 (free_stands t.0 t.2 m.free))
   happens_keeps (Posts posted body) w u h =

@@ -62,7 +62,7 @@ use Rattle.dv_laws.proofs.Mild.{settled_by, SettlesFirst, CallsToSettle, Follows
 use Rattle.dv_laws.proofs.Calm.{reached_by, step_quiet, question_quiet}
 use Rattle.dv_laws.proofs.Mild.{AsksCalmly, rule_mild, side_rule_mild}
 use Rattle.dv_laws.proofs.Mild.{carry_mild}
-use Rattle.dv_laws.proofs.Mild.{side_mild, turned_mild, action_mild, drain_mild, post_comes}
+use Rattle.dv_laws.proofs.Mild.{side_mild, turned_mild, action_mild, drain_mild, expect_mild, expect_mildly, post_comes}
 use Rattle.dv_laws.proofs.Still.{Still, calm}
 use Rattle.dv_laws.proofs.Settles.{place_runs}
 use Rattle.dv_objects.specs.Objects.{with_time}
@@ -140,6 +140,7 @@ quiet_less : Quiet Less
 quiet_less = record {
   stays = less_same;
   joins = λ u v w p q. record { each = λ n. omega (arith, p.each n, q.each n) };
+  by_stop = less_stop;
   by_make = λ name canceller w. make_cases w (Less w) (less_same w) (less_stop w) name canceller (λ x. record {
     each = λ n. omega (arith, push_at owes_of n (new_record name canceller) w.records refl);
   });
@@ -745,6 +746,10 @@ happens_begins (Occurs (event.Drain most)) w s =
     let t = happening (Occurs (event.Drain most)) w in
     begun_watched w t s (rule_pays (scripts.happens (Occurs (event.Drain most))) None w (tt, tt, tt))
     (on_calm w t.2 (drain_mild w).comes)
+happens_begins (Occurs (event.Expect name expected)) w s =
+    let t = happening (Occurs (event.Expect name expected)) w in
+    begun_watched w t s (rule_pays (scripts.happens (Occurs (event.Expect name expected))) None w
+    (expect_mildly name expected w)) (on_calm w t.2 (expect_mild name expected w).comes)
 happens_begins (Posts posted body) w s =
     let t = happening (Posts posted body) w in
     begun_watched w t s (rule_pays (scripts.happens (Posts posted body)) None w (tt, tt, (tt, (tt, (tt, tt)))))

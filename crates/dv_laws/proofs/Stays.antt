@@ -1,6 +1,6 @@
 -- A stopped world stays as it is, whichever step it takes.
 use Rattle.std.specs.Prelude.{◌≡◌, ℕ, Bool, true, false, List, Option, None, Some, slice_get}
-use Rattle.std.proofs.Common.{cond, refl, sym, subst}
+use Rattle.std.proofs.Common.{ap, cond, refl, sym, subst}
 use Rattle.dv_value.specs.declared.value.Value.{Value}
 use Rattle.dv_journal.specs.declared.entry.Entry.{Entry}
 use Rattle.dv_journal.specs.declared.entry.Entry.TheVariants as entry
@@ -11,6 +11,7 @@ use Rattle.dv_prims.specs.Tokens.{Semaphore, is_unheld, asked, released}
 use Rattle.dv_script.specs.declared.work.Work.{Work}
 use Rattle.dv_world.specs.World.{World, step, put, put_deferred, append, make, fire, fire_then_swallow, cancel, pause}
 use Rattle.dv_world.specs.World.{unpause, aside, arrange, submit, lock_told, ask, release_found, release}
+use Rattle.dv_world.specs.World.{with_stop}
 
 kept : (b : Bool) (w u : World) → b ≡ true → cond b w u ≡ w
 kept true w u h = refl
@@ -20,6 +21,9 @@ kept_and : {A : Type 0} (b : Bool) (x : A) (p : A × World) (w : World) → b �
     → (cond {A = A × World} b (x, w) p).1 ≡ w
 kept_and true x p w h = refl
 kept_and false x p w h = absurd cc
+
+pub stop_stays : (w : World) → w.stopped ≡ true → with_stop w ≡ w
+stop_stays w h = ap (λ b. record w { stopped = b }) (sym h)
 
 pub step_stays : (d : ℕ) (w : World) → w.stopped ≡ true → (step d w).1 ≡ w
 unfolding step

@@ -142,7 +142,7 @@ module _ (R : World → World → Type 0) (k : Still R) where
       (λ r x g q. k.swallows d r w x g q) (λ r x g p q. k.refuses d r w x g p q)
       (λ r x g p. k.sets_swallows d r w x g p c))
 
-  -- whoever gets a value is fired with it
+  -- a Deferred that gets a value is fired with it
   after_handed : (o : Option (ℕ × Value)) (w : World) → R w (handed o w)
   after_handed None w = k.stays w
   after_handed (Some who) w = after_fire who.0 who.1 w
@@ -173,7 +173,7 @@ module _ (R : World → World → Type 0) (k : Still R) where
       (λ c. Leaves (refl, refl, refl)) (λ l. l)
       (queue_beside _ _ _ (QueueGot key d q g refl) refl refl refl refl refl refl) x
 
-  -- whoever is granted a token is fired with the name of its lock
+  -- a Deferred that is granted a token is fired with the name of its lock
   after_granted : (o : Option ℕ) (name : List ℕ) (w : World) → R w (granted o name w)
   after_granted None name w = k.stays w
   after_granted (Some d) name w = after_fire d (Text name) w
@@ -219,6 +219,7 @@ module _ (R : World → World → Type 0) (k : Still R) where
     quiet = record {
       stays = k.stays;
       joins = k.joins;
+      by_stop = k.stops;
       by_make =
           λ name canceller w.
           make_cases w (R w) (k.stays w) (k.stops w) name canceller (λ x. k.news name canceller w x);

@@ -125,7 +125,7 @@ may_once : (o : Option Task) → may_stand o ≤ 1
 may_once None = omega arith
 may_once (Some x) = elim x.end as (λ o. ◌≤◌ (cond (is_some o) 0 1) 1) [ None ↦ omega arith | Some end ↦ omega arith ]
 
--- whoever may stand there and joins stands there once at most
+-- a task that may stand there and joins stands there once at most
 new_by : (c : Bool) (n t m : ℕ) (ts : List ℕ) → nat_eq n t ≡ c → standing t ts ≡ 0 → standing n ts ≤ m → one_of n t ≤ m
     → standing n ts + cond c 1 0 ≤ m
 new_by true n t m ts e z h k =

@@ -47,6 +47,7 @@ scheduled_in (tells.Ends timed) = None
 scheduled_in (tells.Reschedules timed due) = Some timed
 scheduled_in (tells.Advances time) = None
 scheduled_in tells.IsUnhandled = None
+scheduled_in tells.IsUnmet = None
 
 abbrev pub scheduled_by : Entry → Option Timed
 scheduled_by e = scheduled_in (told_of e)
@@ -61,6 +62,7 @@ ended_in (tells.Ends timed) = Some timed
 ended_in (tells.Reschedules timed due) = Some timed
 ended_in (tells.Advances time) = None
 ended_in tells.IsUnhandled = None
+ended_in tells.IsUnmet = None
 
 abbrev pub ended_by : Entry → Option Timed
 ended_by e = ended_in (told_of e)

@@ -34,10 +34,10 @@ pub record Tokens : Type 0 where
 abbrev pub tokens : ℕ → ℕ → List ℕ → Option ℕ → Tokens
 tokens all free waiting granted = record { all = all; free = free; waiting = waiting; granted = granted }
 
--- what the next entry makes of a lock. Whoever asks is granted a token that is free, or waits, last. One is released
--- only if one is held, and is granted to the first that waits, or is free. Who is granted one is fired with the name of
--- the lock by the entry after that, or refuses that. One that waits leaves where a cancel fires it. Any other entry
--- leaves the lock as it is
+-- what the next entry makes of a lock. A Deferred that asks is granted a token that is free, or waits, last. One is
+-- released only if one is held, and is granted to the first that waits, or is free. Who is granted one is fired with
+-- the name of the lock by the entry after that, or refuses that. One that waits leaves where a cancel fires it. Any
+-- other entry leaves the lock as it is
 pub data Next (name : List ℕ) (told : List Entry) : Tokens → Entry → Tokens → Type 0 where
   MakesLock : Next name told (tokens 0 0 [] None) (entry.Lock name) (tokens 1 1 [] None)
   MakesSemaphore : (all : ℕ) → Next name told (tokens 0 0 [] None) (entry.Semaphore name all) (tokens all all [] None)
@@ -64,7 +64,8 @@ pub data Leads (name : List ℕ) : List Entry → Tokens → Type 0 where
   Goes : (told : List Entry) (e : Entry) (before after : Tokens) → Leads name told before
       → Next name told before e after → Leads name (told ++ e ∷ []) after
 
--- each entry is one that may come next; at the end of a run that hasn't stopped, whoever was granted a token was fired
+-- each entry is one that may come next; at the end of a run that hasn't stopped, each that was granted a token was
+-- fired
 pub record GrantsInOrder (name : List ℕ) (entries : List Entry) (stopped : Bool) : Type 0 where
   pub after : Tokens
   pub leads : Leads name entries after

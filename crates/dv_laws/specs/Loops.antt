@@ -68,6 +68,9 @@ looping_of entry.Drain = Unlooped
 looping_of (entry.Post caller index) = Unlooped
 looping_of (entry.Body name) = Unlooped
 looping_of (entry.Units units) = Unlooped
+looping_of (entry.Expect id state) = Unlooped
+looping_of (entry.Unmet id state) = Unlooped
+looping_of (entry.Unbound name) = Unlooped
 
 -- it counts one where it is that a loop of this name is started
 abbrev pub starts_by : List ℕ → Looping → ℕ

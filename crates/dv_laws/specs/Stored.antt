@@ -73,6 +73,9 @@ queueing_of entry.Drain = Unqueued
 queueing_of (entry.Post caller index) = Unqueued
 queueing_of (entry.Body name) = Unqueued
 queueing_of (entry.Units units) = Unqueued
+queueing_of (entry.Expect id state) = Unqueued
+queueing_of (entry.Unmet id state) = Unqueued
+queueing_of (entry.Unbound name) = Unqueued
 
 -- the room of a queue, and whether it has no bound, as a count
 abbrev pub room_in : Option ℕ → ℕ

@@ -67,6 +67,9 @@ tasking_of entry.Drain = Untasked
 tasking_of (entry.Post caller index) = Untasked
 tasking_of (entry.Body name) = Untasked
 tasking_of (entry.Units units) = Untasked
+tasking_of (entry.Expect id state) = Untasked
+tasking_of (entry.Unmet id state) = Untasked
+tasking_of (entry.Unbound name) = Untasked
 
 -- it counts one where it is that a task of this name is made, or ends
 abbrev pub makes_by : List ℕ → Tasking → ℕ

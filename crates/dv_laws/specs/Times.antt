@@ -26,6 +26,7 @@ timing_in (tells.Ends timed) = Untimed
 timing_in (tells.Reschedules timed due) = Schedules due
 timing_in (tells.Advances time) = Advances time
 timing_in tells.IsUnhandled = Untimed
+timing_in tells.IsUnmet = Untimed
 
 abbrev pub timing_of : Entry → Timing
 timing_of e = timing_in (told_of e)

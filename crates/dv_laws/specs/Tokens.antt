@@ -72,6 +72,9 @@ holding_of entry.Drain = Unheld
 holding_of (entry.Post caller index) = Unheld
 holding_of (entry.Body name) = Unheld
 holding_of (entry.Units units) = Unheld
+holding_of (entry.Expect id state) = Unheld
+holding_of (entry.Unmet id state) = Unheld
+holding_of (entry.Unbound name) = Unheld
 
 -- it counts one where it is that a token of a lock of this name is asked for, or released
 abbrev pub asks_by : List ℕ → Holding → ℕ

@@ -14,13 +14,14 @@ use crate::telling::{
 use dv_clock::call::Call;
 use dv_journal::deferred_id::DeferredId;
 use dv_journal::journal::Journal;
+use dv_journal::state::State;
 use dv_objects::canceller::Canceller;
 use dv_objects::looping_call::LoopingCall;
 use dv_objects::pair::Pair;
 use dv_objects::task::Task;
 use dv_prims::queue::{Queue, QueueParts};
 use dv_prims::semaphore::{Semaphore, SemaphoreParts};
-use dv_store::outcome::{Outcome, State};
+use dv_store::outcome::Outcome;
 use dv_store::record::{Item, Record};
 use dv_value::deque::Deque;
 use dv_value::items::Items;
@@ -32,7 +33,8 @@ use std::alloc::{AllocError, Global};
 #[derive(Drop)]
 pub struct Remains {
     pub journal: Journal,
-    /// Whether an entry didn't fit into the journal, so that the run stopped there.
+    /// Whether the run stopped: at an entry that didn't fit into the journal, or at a Deferred that
+    /// wasn't as the script expects.
     pub stopped: bool,
     /// What became of each Deferred, in order of making.
     pub outcomes: Items<Outcome>,

@@ -150,6 +150,7 @@ pub stays_bounded : Lasting StaysBounded
 stays_bounded = let l = every_step StaysFine fine in record {
   stays = λ w. record { goes_on = λ b. b };
   joins = λ u v w p q. record { goes_on = λ b. q.goes_on (p.goes_on b) };
+  by_stop = λ w. bounded w _ (l.by_stop w);
   by_step = λ d w. bounded w _ (l.by_step d w);
   by_put = λ d value w. bounded w _ (l.by_put d value w);
   by_put_deferred = λ d e w. bounded w _ (l.by_put_deferred d e w);

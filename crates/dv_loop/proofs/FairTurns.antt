@@ -12,7 +12,7 @@ use Rattle.dv_loop.proofs.RuleComes.{rule_comes}
 use Rattle.dv_loop.proofs.StepsCome.{by_aside}
 use Rattle.dv_loop.specs.Acting.{begun}
 use Rattle.dv_loop.specs.Beginning.{happening}
-use Rattle.dv_definition.specs.Scripts.{Occurrence, Occurs}
+use Rattle.dv_definition.specs.Scripts.{Occurrence, Occurs, expect}
 use Rattle.dv_definition.specs.Scripts.{Posts}
 use Rattle.dv_loop.specs.Turning.{turned}
 use Rattle.dv_definition.specs.Definition.{carry_out}
@@ -34,4 +34,5 @@ pub happening_comes : (o : Occurrence) (w : World) → Comes w (happening o w).2
 happening_comes (Occurs (event.Action action)) w = begun_comes None (out-Action action) w
 happening_comes (Occurs (event.Advance ticks)) w = by_aside (entry.Advance _) _ w refl
 happening_comes (Occurs (event.Drain most)) w = by_aside entry.Drain _ w refl
+happening_comes (Occurs (event.Expect name expected)) w = rule_comes (expect name expected) w
 happening_comes (Posts posted body) w = by_aside (entry.Post posted.caller posted.index) _ w refl

@@ -115,6 +115,7 @@ unfolding step put put_deferred append make fire fire_then_swallow cancel pause 
 grow = record {
   stays = λ w. same w w refl;
   joins = joined;
+  by_stop = λ w. same w _ refl;
   by_step = λ d w. unless_and w.stopped _ _ w (moved_same _ _ w);
   by_put = λ d value w. unless w.stopped w _ (after_same _ _ w);
   by_put_deferred = λ d e w. unless w.stopped w _ (after_same _ _ w);

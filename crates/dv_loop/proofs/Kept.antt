@@ -401,6 +401,7 @@ module _ (R : Both → Both → Type 0) (k : Kept R) where
   every_step = record {
     stays = λ w. k.stays (state_of w);
     joins = λ u v w. k.joins (state_of u) (state_of v) (state_of w);
+    by_stop = λ w. k.stays (state_of w);
     by_step = by_step;
     by_put = by_put;
     by_put_deferred = by_put_deferred;

@@ -7,13 +7,14 @@ use Rattle.dv_script.specs.declared.work.Work.{Work}
 use Rattle.dv_objects.specs.declared.canceller.Canceller.{Canceller}
 use Rattle.dv_objects.specs.Objects.{Objects}
 use Rattle.dv_world.specs.World.{World, step, put, put_deferred, append, make, fire, fire_then_swallow, cancel, pause}
-use Rattle.dv_world.specs.World.{unpause, aside, arrange, submit}
+use Rattle.dv_world.specs.World.{unpause, aside, arrange, submit, with_stop}
 use Rattle.dv_objects.specs.Pair.{Pair}
 
 -- a relation of worlds that holds of each step, and of steps in turn
 pub record Lasting (R : World → World → Type 0) : Type 0 where
   pub stays : (w : World) → R w w
   pub joins : (u v w : World) → R u v → R v w → R u w
+  pub by_stop : (w : World) → R w (with_stop w)
   pub by_step : (d : ℕ) (w : World) → R w (step d w).1
   pub by_put : (d : ℕ) (value : Value) (w : World) → R w (put d value w)
   pub by_put_deferred : (d e : ℕ) (w : World) → R w (put_deferred d e w)

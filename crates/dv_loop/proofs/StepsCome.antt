@@ -29,9 +29,9 @@ use Rattle.dv_definition.specs.Steps.{TellTurn, TellUnhandled, NewLock, NewSemap
 use Rattle.dv_definition.specs.Steps.{Withdraw, NewList, StartTimer, EndTimer, CallLater, NewLoop, ScheduleTurn}
 use Rattle.dv_definition.specs.Steps.{StopLoop, EndLoop, NewTask, AwaitTask, PauseTask, ResumeTask, HoldTask, KeepTick}
 use Rattle.dv_definition.specs.Steps.{SetUnits, BeginBody, BeginTick, EndTick, AddInline, BeginAwait, Submit}
-use Rattle.dv_definition.specs.Steps.{DeliverLater, Advance}
-use Rattle.dv_definition.specs.Steps.{TellDrain, TellPost, Put, PutDeferred, TakeDue, Moves, Cancel, PutInto, GetFrom}
-use Rattle.dv_definition.specs.Steps.{ChildFired, CancelCall, ResetCall, TakeStep, EndTask, ResumeInline, EndAwait}
+use Rattle.dv_definition.specs.Steps.{DeliverLater, Advance, TellMet, TellUnmet, TellUnbound, StopRun, TellDrain}
+use Rattle.dv_definition.specs.Steps.{TellPost, Put, PutDeferred, TakeDue, Moves, Cancel, PutInto, GetFrom, ChildFired}
+use Rattle.dv_definition.specs.Steps.{CancelCall, ResetCall, TakeStep, EndTask, ResumeInline, EndAwait}
 use Rattle.dv_value.specs.declared.value.Value.{Value}
 use Rattle.dv_world.specs.World.{World, aside, lock_told, release_found, unless_stopped, put_into_found, get_from_found}
 use Rattle.dv_world.specs.World.{arrange, child_fired_found, child_fired_in, take_due_found, waiting_cancelled}
@@ -234,6 +234,10 @@ step_comes (DeliverLater job d delay) w = by_aside (entry.LaterJob job _) _ w re
 step_comes (Advance ticks) w = by_aside (entry.Advance _) _ w refl
 step_comes TellDrain w = by_aside entry.Drain _ w refl
 step_comes (TellPost caller index) w = by_aside (entry.Post caller index) _ w refl
+step_comes (TellMet d state) w = by_aside (entry.Expect d state) _ w refl
+step_comes (TellUnmet d state) w = by_aside (entry.Unmet d state) _ w refl
+step_comes (TellUnbound name) w = by_aside (entry.Unbound name) _ w refl
+step_comes StopRun w = record { keeps = λ R l. l.by_stop w }
 step_comes (Put d v) w = record { keeps = λ R l. l.by_put d v w }
 step_comes (PutDeferred d e) w = record { keeps = λ R l. l.by_put_deferred d e w }
 

@@ -1,5 +1,5 @@
 -- A stopped world stays as it is.
-use Rattle.std.proofs.Common.{◌≡◌, Bool, true, false, cond, List, [], refl, subst, sym, ◌∙◌}
+use Rattle.std.proofs.Common.{◌≡◌, Bool, true, false, cond, List, [], refl, ap, subst, sym, ◌∙◌}
 use Rattle.dv_loop.proofs.Lasting.{Lasting}
 use Rattle.dv_loop.proofs.Total.{gives_keeps, begun_gives_keeps, happens_keeps, frames_end, happens_end}
 use Rattle.dv_loop.specs.Laws.{StoppedWorldsStay, StoppedActionsStay}
@@ -7,7 +7,7 @@ use Rattle.dv_loop.specs.Meaning.{Gives, Ends, Happens}
 use Rattle.dv_definition.specs.Scripts.{Occurrence}
 use Rattle.dv_frames.specs.declared.frame.Frame.{Frame}
 use Rattle.dv_world.specs.World.{World, step, put, put_deferred, append, make, fire, fire_then_swallow, cancel, pause}
-use Rattle.dv_world.specs.World.{unpause, aside, arrange, submit}
+use Rattle.dv_world.specs.World.{unpause, aside, arrange, submit, with_stop}
 use Rattle.dv_objects.specs.declared.performed.Performed.{Performed}
 
 record Stays (w u : World) : Type 0 where
@@ -22,6 +22,9 @@ kept_and : {A : Type 0} (b : Bool) (x : A) (p : A × World) (w : World) → b �
 kept_and true x p w h = refl
 kept_and false x p w h = absurd cc
 
+pub stop_same : (w : World) → w.stopped ≡ true → with_stop w ≡ w
+stop_same w h = ap (λ b. record w { stopped = b }) (sym h)
+
 stays : Lasting Stays
 unfolding step put put_deferred append make fire fire_then_swallow cancel pause unpause aside arrange submit
 stays = record {
@@ -29,6 +32,7 @@ stays = record {
   joins = λ u v w p q. record {
     where_stopped = λ h. let first = p.where_stopped h in q.where_stopped (rw first h) ∙ first;
   };
+  by_stop = λ w. record { where_stopped = stop_same w };
   by_step = λ d w. record { where_stopped = λ h. kept_and w.stopped _ _ w h };
   by_put = λ d value w. record { where_stopped = λ h. kept w.stopped w _ h };
   by_put_deferred = λ d e w. record { where_stopped = λ h. kept w.stopped w _ h };

@@ -35,8 +35,8 @@ pub enum Side<'s> {
     /// The value is passed on, but TimeoutError in place of a cancellation if this timer has
     /// expired (Twisted: the first of the two that `Deferred.addTimeout` adds).
     Timed(CallId),
-    /// The body runs on the value where the time of this timer has come; else the value is passed on
-    /// (Twisted: the first of the two, with `onTimeoutCancel`).
+    /// The body runs on the value where the time of this timer has come; else the value is passed
+    /// on (Twisted: the first of the two, with `onTimeoutCancel`).
     OnTimeout(CallId, BodyRef<'s>),
     /// This timer ends, if it hasn't expired, and the value is passed on (Twisted: the second of
     /// the two).

@@ -28,6 +28,7 @@ fit_from [] (b ∷ []) fitting = refl
 fit_from [] (b ∷ c ∷ batches) fitting = absurd (let l = fitting.count in omega (arith, l))
 fit_from (event.Action action ∷ events) batches fitting = fit_from events batches fitting
 fit_from (event.Advance ticks ∷ events) batches fitting = fit_from events batches fitting
+fit_from (event.Expect name expected ∷ events) batches fitting = fit_from events batches fitting
 fit_from (event.Drain most ∷ events) [] fitting = absurd (let l = fitting.count in omega (arith, l))
 fit_from (event.Drain most ∷ events) (b ∷ batches) fitting = (
   fitting.few 0 most refl,
@@ -46,6 +47,7 @@ fitting_from [] (b ∷ batches) fit =
     record { count = let l : length batches ≡ 0 = ap length fit in omega (arith, l); few = λ k most at. absurd cc }
 fitting_from (event.Action action ∷ events) batches fit = fitting_from events batches fit
 fitting_from (event.Advance ticks ∷ events) batches fit = fitting_from events batches fit
+fitting_from (event.Expect name expected ∷ events) batches fit = fitting_from events batches fit
 fitting_from (event.Drain most ∷ events) [] fit = absurd fit
 fitting_from (event.Drain most ∷ events) (b ∷ batches) fit =
     let rest = fitting_from events batches fit.1 in

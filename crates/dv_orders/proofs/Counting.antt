@@ -27,6 +27,7 @@ pub cuts_counted : (events : List Event) (sequence : Batch)
 cuts_counted [] sequence = refl
 cuts_counted (event.Action action ∷ events) sequence = cuts_counted events sequence
 cuts_counted (event.Advance ticks ∷ events) sequence = cuts_counted events sequence
+cuts_counted (event.Expect name expected ∷ events) sequence = cuts_counted events sequence
 cuts_counted (event.Drain most ∷ events) sequence =
     length_flat (λ split. map (λ l. split.taken ∷ l) (cuts events split.left)) (splits most sequence)
     ∙ sum_same (λ split. length (map (λ l. split.taken ∷ l) (cuts events split.left)))

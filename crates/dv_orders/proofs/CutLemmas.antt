@@ -199,6 +199,7 @@ pub cuts_are : (events : List Event) (sequence : Batch)
 cuts_are [] sequence = ap (map (λ lengths. cut_by lengths sequence)) (sym (of_none (length sequence)))
 cuts_are (event.Action action ∷ events) sequence = cuts_are events sequence
 cuts_are (event.Advance ticks ∷ events) sequence = cuts_are events sequence
+cuts_are (event.Expect name expected ∷ events) sequence = cuts_are events sequence
 cuts_are (event.Drain most ∷ events) sequence =
     let drains = drains_of events in
     let range = range_with_len 0 (suc (min most (length sequence))) in

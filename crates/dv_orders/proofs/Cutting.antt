@@ -67,6 +67,8 @@ cuts_up (event.Action action ∷ events) sequence batches h =
     let up = cuts_up events sequence batches h in record { fit = up.fit; whole = up.whole }
 cuts_up (event.Advance ticks ∷ events) sequence batches h =
     let up = cuts_up events sequence batches h in record { fit = up.fit; whole = up.whole }
+cuts_up (event.Expect name expected ∷ events) sequence batches h =
+    let up = cuts_up events sequence batches h in record { fit = up.fit; whole = up.whole }
 cuts_up (event.Drain most ∷ events) sequence batches h =
     let r = of_flat (λ split. map (λ l. split.taken ∷ l) (cuts events split.left)) batches (splits most sequence) h in
     let rest = of_map (λ l. r.0.taken ∷ l) batches (cuts events r.0.left) r.2 in
@@ -83,6 +85,7 @@ in_cuts [] (batch ∷ batches) fit =
     inl (ap (λ l. l ∷ []) (ap (λ l. batch ++ joined l) fit ∙ append-nil batch) ∙ ap (λ l. batch ∷ l) (sym fit))
 in_cuts (event.Action action ∷ events) batches fit = in_cuts events batches fit
 in_cuts (event.Advance ticks ∷ events) batches fit = in_cuts events batches fit
+in_cuts (event.Expect name expected ∷ events) batches fit = in_cuts events batches fit
 in_cuts (event.Drain most ∷ events) [] fit = absurd fit
 in_cuts (event.Drain most ∷ events) (batch ∷ batches) fit =
     in_flat (λ split. map (λ l. split.taken ∷ l) (cuts events split.left)) (record {
@@ -96,6 +99,7 @@ pub cuts_differ : (events : List Event) (sequence : Batch) → Distinct (cuts ev
 cuts_differ [] sequence = (λ h. h, tt)
 cuts_differ (event.Action action ∷ events) sequence = cuts_differ events sequence
 cuts_differ (event.Advance ticks ∷ events) sequence = cuts_differ events sequence
+cuts_differ (event.Expect name expected ∷ events) sequence = cuts_differ events sequence
 cuts_differ (event.Drain most ∷ events) sequence =
     distinct_flat (λ split. map (λ l. split.taken ∷ l) (cuts events split.left)) (λ split. split.taken)
     (λ l. slice_index_or l 0 []) (splits most sequence)
@@ -114,6 +118,7 @@ pub nothing_cut : (events : List Event) → cuts events [] ≡ empty_batches eve
 nothing_cut [] = refl
 nothing_cut (event.Action action ∷ events) = nothing_cut events
 nothing_cut (event.Advance ticks ∷ events) = nothing_cut events
+nothing_cut (event.Expect name expected ∷ events) = nothing_cut events
 nothing_cut (event.Drain most ∷ events) =
     ap (flat_map (λ split. map (λ batches. split.taken ∷ batches) (cuts events split.left))) (nothing_splits most)
     ∙ ap (λ l. map (λ batches. [] ∷ batches) l ++ []) (nothing_cut events)

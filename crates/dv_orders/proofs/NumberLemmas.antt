@@ -169,6 +169,7 @@ pub cuts_some : (events : List Event) (count : ℕ) → 0 < number_of_cuts event
 cuts_some [] count = omega arith
 cuts_some (event.Action action ∷ events) count = cuts_some events count
 cuts_some (event.Advance ticks ∷ events) count = cuts_some events count
+cuts_some (event.Expect name expected ∷ events) count = cuts_some events count
 cuts_some (event.Drain most ∷ events) count =
     omega (arith, splits_first (number_of_cuts events) most count, cuts_some events count)
 

@@ -16,6 +16,7 @@ use Rattle.dv_script.specs.declared.script.Script.{Script}
 abbrev pub most_of : Event → Option ℕ
 most_of (event.Action action) = None
 most_of (event.Advance ticks) = None
+most_of (event.Expect name expected) = None
 most_of (event.Drain most) = Some most
 
 -- how many posts each drain takes at most

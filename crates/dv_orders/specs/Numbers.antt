@@ -31,6 +31,7 @@ abbrev pub number_of_cuts : List Event → ℕ → ℕ
 number_of_cuts [] count = 1
 number_of_cuts (event.Action action ∷ events) count = number_of_cuts events count
 number_of_cuts (event.Advance ticks ∷ events) count = number_of_cuts events count
+number_of_cuts (event.Expect name expected ∷ events) count = number_of_cuts events count
 number_of_cuts (event.Drain most ∷ events) count = sum_over_splits (number_of_cuts events) most count
 
 -- how many orders a script has

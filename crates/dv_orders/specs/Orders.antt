@@ -50,6 +50,7 @@ abbrev pub cuts : List Event → Batch → List (List Batch)
 cuts [] sequence = (sequence ∷ []) ∷ []
 cuts (event.Action action ∷ events) sequence = cuts events sequence
 cuts (event.Advance ticks ∷ events) sequence = cuts events sequence
+cuts (event.Expect name expected ∷ events) sequence = cuts events sequence
 cuts (event.Drain most ∷ events) sequence =
     flat_map (λ split. map (λ batches. split.taken ∷ batches) (cuts events split.left)) (splits most sequence)
 
@@ -76,6 +77,7 @@ abbrev pub empty_batches : List Event → List Batch
 empty_batches [] = [] ∷ []
 empty_batches (event.Action action ∷ events) = empty_batches events
 empty_batches (event.Advance ticks ∷ events) = empty_batches events
+empty_batches (event.Expect name expected ∷ events) = empty_batches events
 empty_batches (event.Drain most ∷ events) = [] ∷ empty_batches events
 
 -- every order in which the posts of a script may be taken

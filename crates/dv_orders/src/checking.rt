@@ -54,7 +54,7 @@ pub(crate) fn drains_of(alloc: Global, events: &[Event]) -> Result<Vec<u32>, All
     for event in events {
         match event {
             Event::Drain(most) => drains.push(*most)?,
-            Event::Action(_) | Event::Advance(_) => {}
+            Event::Action(_) | Event::Advance(_) | Event::Expect(_, _) => {}
         }
     }
     Ok(drains)

@@ -165,7 +165,7 @@ pub(crate) fn line_of_cuts(
         place -= 1;
         match &events[place] {
             Event::Drain(most) => add_drain(&mut line, *most as usize, cap),
-            Event::Action(_) | Event::Advance(_) => {}
+            Event::Action(_) | Event::Advance(_) | Event::Expect(_, _) => {}
         }
     }
     Ok(line)

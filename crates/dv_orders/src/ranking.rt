@@ -160,7 +160,7 @@ fn cut_of(
                     None => return Ok(None),
                 }
             }
-            Event::Action(_) | Event::Advance(_) => {}
+            Event::Action(_) | Event::Advance(_) | Event::Expect(_, _) => {}
         }
     }
     if number > 0 {

@@ -269,7 +269,7 @@ pub stays : (ps : List (Option Answer)) (k : ℕ) (w : Work) (p : Option Answer)
     → MayStay p w → Awaits ps k w ps
 stays ps k w p low at may seen works none h = ArePlaced-fine seen 0 works ps k w p (at_place ps k p low at) may none h
 
--- what may not is put aside
+-- what may not is ignored
 pub cleared : (ps : List (Option Answer)) (k : ℕ) (w : Work) (p : Option Answer) → k < length ps → p ≡ get_or ps k p
     → (MayStay p w → ⊥) → Awaits ps k w (set ps k None)
 cleared ps k w p low at other seen works none h =

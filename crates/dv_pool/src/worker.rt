@@ -47,7 +47,7 @@ fn idle<R: Wait>(rt: &R, parker: &Parker, looks: u32) {
     }
 }
 
-/// Answers jobs until the worker of this number is told to leave.
+/// Answers jobs until the worker of this number has to leave.
 pub fn serve<R: Wait, G: Gate>(
     rt: &R,
     alloc: Global,

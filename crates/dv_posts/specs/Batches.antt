@@ -56,6 +56,7 @@ Fit [] [] = ⊥
 Fit [] (batch ∷ batches) = batches ≡ []
 Fit (event.Action action ∷ events) batches = Fit events batches
 Fit (event.Advance ticks ∷ events) batches = Fit events batches
+Fit (event.Expect name expected ∷ events) batches = Fit events batches
 Fit (event.Drain most ∷ events) [] = ⊥
 Fit (event.Drain most ∷ events) (batch ∷ batches) = (length batch ≤ most) × Fit events batches
 

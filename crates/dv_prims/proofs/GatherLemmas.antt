@@ -16,7 +16,7 @@ use Rattle.dv_prims.specs.DeferredList.{first_success, first_failure, count_miss
 use Rattle.dv_prims.specs.DeferredList.{due_by_failure, due}
 use Rattle.dv_prims.specs.Laws.{ListsFireOnceAtMost}
 
--- whoever fires a list ends it
+-- a child that fires a list ends it
 abbrev Ends : Due → Type 0
 Ends t = (v : Value) → t.0 ≡ Some v → t.1.fired ≡ true
 

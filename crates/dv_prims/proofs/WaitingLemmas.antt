@@ -229,7 +229,7 @@ without_first d ticket (t ∷ tickets) s first h =
     (ap (λ (b : Bool). cond b (Some t.1) (holder ticket tickets)) (sym (at_is ticket t.0)) ∙ h)
     (λ g. without_first d ticket tickets (later t tickets s) (λ u w. first u (held_later u d t tickets s w)) g)
 
--- whoever holds a ticket waits
+-- a waiter that holds a ticket waits
 waits_by : (d ticket : ℕ) (t : Ticket) (rest : Option ℕ) (others : Bool) (here : Bool)
     → cond here (Some t.1) rest ≡ Some d → (rest ≡ Some d → others ≡ true) → (nat_eq d t.1 || others) ≡ true
 waits_by d ticket t rest others true h k =
@@ -252,7 +252,7 @@ holder_waits d ticket (t ∷ tickets) h =
 abbrev pub HoldsNone : ℕ → List Ticket → Type 0
 HoldsNone d tickets = (t : ℕ) → holder t tickets ≢ Some d
 
--- whoever holds none doesn't wait, and nothing is taken out
+-- a waiter that holds none doesn't wait, and nothing is taken out
 pub record IsAway (d : ℕ) (waiting : List ℕ) : Type 0 where
   pub waits : is_waiting d waiting ≡ false
   pub left : without d waiting ≡ waiting
@@ -329,14 +329,14 @@ is_indexed order tickets given d t k h = k.found (d, t) ∙ is_held d (get nat_c
 not_both : (b : Bool) → b ≡ true → b ≡ false → ⊥
 not_both b h k = absurd cc
 
--- whoever has no ticket doesn't wait
+-- a waiter that has no ticket doesn't wait
 pub away_is : (order : BTreeMap ℕ ℕ) (tickets : BTreeSet (ℕ × ℕ)) (given d : ℕ) → IsKept order tickets given
     → IsFirstTicket tickets d None → IsAway d (waiting_of order.entries)
 away_is order tickets given d k h =
     none_is_away d order.entries k.ascends
     (λ t g. not_both (contains by_number tickets (d, t)) (is_indexed order tickets given d t k g) (h t))
 
--- whoever has a first ticket waits, and leaves by it
+-- a waiter that has a first ticket waits, and leaves by it
 pub record IsLeaving (d ticket : ℕ) (order : List Ticket) : Type 0 where
   pub waits : is_waiting d (waiting_of order) ≡ true
   pub left : waiting_of (remove_entry (is_at (nat_cmp ticket)) order) ≡ without d (waiting_of order)
@@ -351,7 +351,7 @@ leaving_is order tickets given d ticket k h =
           without_first d ticket order.entries k.ascends (λ t g. h.1 t (is_indexed order tickets given d t k g)) held;
     }
 
--- whoever is taken out leaves no more than there were
+-- a waiter that is taken out leaves no more than there were
 left_more_by : (n : ℕ) (waiting rest : List ℕ) (here : Bool) → length rest ≤ length waiting
     → length (cond here waiting (n ∷ rest)) ≤ suc (length waiting)
 left_more_by n waiting rest true h = omega arith

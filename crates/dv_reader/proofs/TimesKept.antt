@@ -13,7 +13,7 @@ use Rattle.dv_forms.specs.Forms.{Each, Field, IsList, IsNumber, Key}
 use Rattle.dv_reader.specs.Laws.{TimesAreKept}
 use Rattle.dv_reader.specs.Limits.{ticks_in}
 use Rattle.dv_script.specs.declared.body.Body.{Body}
-use Rattle.dv_grammar.specs.Grammar.{plain_cooperator, IsBody, IsEvent, acts, advances, drains, IsCooperator}
+use Rattle.dv_grammar.specs.Grammar.{plain_cooperator, IsBody, IsEvent, acts, advances, drains, expects, IsCooperator}
 use Rattle.dv_grammar.specs.Grammar.{is_interval, times_body, IsNamedBody, names_body}
 use Rattle.dv_grammar.proofs.Actions.{interval_is, short_action, short_body}
 use Rattle.dv_reader.specs.Times.{times_event, times_named, KeepsTimes}
@@ -22,6 +22,7 @@ short_event : (table : List Class) (d : Data) (e : Event) → IsEvent table d e 
 short_event table d _ (acts _ a g) = short_action g
 short_event table _ _ (advances d n g) = refl
 short_event table _ _ (drains d n g) = refl
+short_event table _ _ (expects name d x g) = refl
 
 -- what holds of each that an item stands for, holds of all
 all_of : {X : Type 0} (Is : Data → X → Type 0) (test : X → Bool) → ((d : Data) (x : X) → Is d x → test x ≡ true)

@@ -7,7 +7,7 @@ use Rattle.serde_json.specs.Data.{Data, null, boolean, number, string, array, ob
 use Rattle.serde_json.specs.Data.{no_members, member}
 use Rattle.serde_json.specs.Find.{get, as_number, as_u64}
 use Rattle.dv_script.specs.declared.event.Event.{Event}
-use Rattle.dv_script.specs.declared.event.Event.TheVariants.{Action, Advance, Drain}
+use Rattle.dv_script.specs.declared.event.Event.TheVariants.{Action, Advance, Drain, Expect}
 use Rattle.dv_grammar.specs.declared.draft.Draft.{Draft}
 use Rattle.dv_script.specs.declared.body.Body.{Body}
 use Rattle.dv_script.specs.declared.limits.TheConstants.{MOST_BODIES, MOST_CALLERS, MOST_CLASSES, MOST_POOLS}
@@ -49,6 +49,7 @@ abbrev pub ticks_of : Event → ℕ
 ticks_of (Action a) = 0
 ticks_of (Advance n) = n
 ticks_of (Drain n) = 0
+ticks_of (Expect name expected) = 0
 
 -- by how many the events do in all
 abbrev pub ticks_in : List Event → ℕ

@@ -15,6 +15,7 @@ abbrev pub times_event : Event → Bool
 times_event (event.Action a) = times_action a
 times_event (event.Advance n) = true
 times_event (event.Drain n) = true
+times_event (event.Expect name expected) = true
 
 -- of the body that is named
 abbrev pub times_named : NamedBody → Bool

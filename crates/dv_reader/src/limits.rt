@@ -89,7 +89,7 @@ fn ticks_of(event: &Event) -> u64
     ensures { result ≡ ticks_of event.now }
 {
     match event {
-        Event::Action(_) | Event::Drain(_) => 0,
+        Event::Action(_) | Event::Drain(_) | Event::Expect(_, _) => 0,
         Event::Advance(n) => *n,
     }
 }

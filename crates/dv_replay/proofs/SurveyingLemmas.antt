@@ -21,6 +21,8 @@ use Rattle.dv_replay.specs.Surveying as surveying
 use Rattle.dv_replay.specs.Surveying.{CountFails, GivesUp, HasSurveyed, OrdersGiveUp, format_of, PrintsOrders, Surveys}
 use Rattle.dv_replay.specs.Surveying.{chosen_orders, is_few, orders_text, ran, run_of}
 use Rattle.dv_replay.specs.declared.error.SurveyFault.{SurveyFault}
+use Rattle.dv_replay.specs.declared.exit.Sums.{Sums}
+use Rattle.dv_survey.specs.Tallies.{count_of}
 use Rattle.dv_replay.specs.declared.error.SurveyFault.TheVariants as failing
 use Rattle.dv_run.specs.declared.orders.Chosen.{Chosen}
 use Rattle.dv_run.specs.Headline.{IsRun, Told}
@@ -159,12 +161,13 @@ survey_fails format printing.OutOfMemory chosen n old mid new script survey numb
 })
 
 -- all was written
-pub all_written : (format : Format) (chosen : Chosen) (n ways : ℕ) (old mid new : Told) (script : Script)
+pub all_written : (format : Format) (chosen : Chosen) (n : ℕ) (sums : Sums) (old mid new : Told) (script : Script)
     (survey : Survey) → n ≡ length (orders script) → is_few chosen n ≡ true
     → HasSurveyed format script (chosen_orders chosen script) survey
     → Appends old mid (number_text format n) → Appends mid new (survey_text survey (ran chosen n))
-    → ways ≡ length survey.outcomes → PrintsOrders format chosen old new ways script
-all_written format chosen n ways old mid new script survey number few has line text counted = record {
+    → sums.outcomes ≡ length survey.outcomes → sums.unmet ≡ count_of survey.unmet
+    → PrintsOrders format chosen old new sums script
+all_written format chosen n sums old mid new script survey number few has line text counted unmet = record {
   few = subst (λ m. is_few chosen m ≡ true) number few;
   survey = survey;
   surveyed = has;
@@ -172,6 +175,7 @@ all_written format chosen n ways old mid new script survey number few has line t
       subst (λ m. Appends old new (orders_text format chosen m survey)) number
       (Appends-trans old mid new (number_text format n) (survey_text survey (ran chosen n)) line text);
   ways = counted;
+  unmet = unmet;
 }
 
 -- memory ran out after a print, by which the writer hasn't failed
@@ -190,10 +194,10 @@ no_script format WriteFault chosen input rest told old new none =
     elim (none.writer 0) [ inl fewer ↦ absurd (omega (arith, fewer)) | inr more ↦ absurd (omega (arith, more)) ]
 
 -- the input says the script, whose orders were all performed or weren't
-pub says_all : (format : Format) (chosen : Chosen) (outcomes : ℕ) (input old new : Told) (script : Script)
-    → SaysScript input script → PrintsOrders format chosen old new outcomes script
-    → Surveys format chosen input old new outcomes
-says_all format chosen outcomes input old new script says prints =
+pub says_all : (format : Format) (chosen : Chosen) (sums : Sums) (input old new : Told) (script : Script)
+    → SaysScript input script → PrintsOrders format chosen old new sums script
+    → Surveys format chosen input old new sums
+says_all format chosen sums input old new script says prints =
     record { script = script; says = says; holds = prints }
 
 pub says_fault : (format : Format) (fault : SurveyFault) (chosen : Chosen) (input old new : Told) (script : Script)

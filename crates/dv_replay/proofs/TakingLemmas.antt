@@ -19,6 +19,7 @@ fit_plain : (event : Event) (left : List Event) (batches : List Batch) → IsPla
     → Fit left batches
 fit_plain (event.Action action) left batches plain fit = fit
 fit_plain (event.Advance ticks) left batches plain fit = fit
+fit_plain (event.Expect name expected) left batches plain fit = fit
 fit_plain (event.Drain most) left batches plain fit = absurd plain
 
 -- the next batch is there and short enough, and the others fit what is left

@@ -4,6 +4,7 @@ use Rattle.std.specs.Prelude.{◌≡◌, ◌<◌, ◌⊎◌, ◌++◌, ◌^◌, 
 use Rattle.std.specs.Prelude.{length, map, All, Result, Ok, Err}
 use Rattle.std.specs.Io.KnownBytes.{Appends, Keeps}
 use Rattle.dv_engine.specs.declared.report.Report.{Report}
+use Rattle.dv_journal.specs.Ending.{ending_of}
 use Rattle.dv_journal.specs.Sink.{AppendsPrefix}
 use Rattle.dv_orders.specs.Orders.{orders}
 use Rattle.dv_orders.specs.Sampled.{sampled}
@@ -13,6 +14,7 @@ use Rattle.dv_run.specs.declared.error.RunFault.TheVariants.{ScriptRefused, OutO
 use Rattle.dv_posts.specs.Batches.{Batch}
 use Rattle.dv_replay.specs.declared.error.SurveyFault.{SurveyFault}
 use Rattle.dv_replay.specs.declared.error.SurveyFault.TheVariants.{Run, TooMany}
+use Rattle.dv_replay.specs.declared.exit.Sums.{Sums}
 use Rattle.dv_run.specs.declared.orders.Chosen.{Chosen}
 use Rattle.dv_run.specs.declared.orders.Chosen.TheVariants.{Every, Sample}
 use Rattle.dv_run.specs.Headline.{IsRun, Told}
@@ -20,6 +22,7 @@ use Rattle.dv_run.specs.Run as run
 use Rattle.dv_run.specs.Run.{HasRead, RefusesInput, SaysScript}
 use Rattle.dv_script.specs.declared.script.Script.{Script}
 use Rattle.dv_survey.specs.Survey as gathering
+use Rattle.dv_survey.specs.Tallies.{count_of}
 use Rattle.dv_survey.specs.Text.{number_text, survey_text}
 use Rattle.dv_survey.specs.declared.format.Format.{Format}
 use Rattle.dv_survey.specs.declared.format.Format.TheVariants.{Lines, Json}
@@ -27,7 +30,7 @@ use Rattle.dv_survey.specs.declared.survey.Survey.{Survey}
 
 -- what a survey keeps of the report of a run
 abbrev pub run_of : Report → gathering.Run
-run_of report = gathering.run_of report.batches report.outcomes report.stopped
+run_of report = gathering.run_of report.batches report.outcomes (ending_of report.stopped report.journal.entries)
 
 -- the survey is that of runs of the script, one in each of these orders
 pub record HasSurveyed (format : Format) (script : Script) (seen : List (List Batch)) (survey : Survey) : Type 0 where
@@ -63,14 +66,15 @@ abbrev pub orders_text : Format → Chosen → ℕ → Survey → List ℕ
 orders_text format chosen count survey = number_text format count ++ survey_text survey (ran chosen count)
 
 -- what became of the Deferreds in the chosen orders was written, of which there are no more than may run, in so many
--- ways
-pub record PrintsOrders (format : Format) (chosen : Chosen) (old new : Told) (outcomes : ℕ)
+-- ways; and in so many of them a Deferred wasn't as the script expects
+pub record PrintsOrders (format : Format) (chosen : Chosen) (old new : Told) (sums : Sums)
     (script : Script) : Type 0 where
   pub few : is_few chosen (length (orders script)) ≡ true
   pub survey : Survey
   pub surveyed : HasSurveyed format script (chosen_orders chosen script) survey
   pub written : Appends old new (orders_text format chosen (length (orders script)) survey)
-  pub ways : outcomes ≡ length survey.outcomes
+  pub ways : sums.outcomes ≡ length survey.outcomes
+  pub unmet : sums.unmet ≡ count_of survey.unmet
 
 -- a prefix of that was written
 pub record PrintsSome (format : Format) (chosen : Chosen) (old new : Told) (script : Script) : Type 0 where
@@ -94,8 +98,8 @@ pub record InputSays (input : Told) (Holds : Script → Type 0) : Type 0 where
   pub holds : Holds script
 
 -- the input says a script, and what became of its Deferreds in every order was written
-abbrev pub Surveys : Format → Chosen → Told → Told → Told → ℕ → Type 0
-Surveys format chosen input old new outcomes = InputSays input (PrintsOrders format chosen old new outcomes)
+abbrev pub Surveys : Format → Chosen → Told → Told → Told → Sums → Type 0
+Surveys format chosen input old new sums = InputSays input (PrintsOrders format chosen old new sums)
 
 -- why the orders of a script aren't performed: an allocation failed, or there are too many
 abbrev pub CountFails : SurveyFault → Chosen → Script → Type 0

@@ -38,12 +38,26 @@ pub fn fault_refusal(fault: ReplayFault) -> Option<OrderFault>
     }
 }
 
-/// Returns the exit status of a survey of all orders: 0 where all runs ended in one way, and 6
-/// where they didn't.
-pub fn survey_status(outcomes: usize) -> u8
-    ensures { result ≡ survey_status outcomes }
+/// In how many ways the runs of a survey ended, and how many of them ended since a Deferred wasn't
+/// as the script expects.
+#[derive(Clone, Copy, Drop)]
+pub struct Sums {
+    pub outcomes: usize,
+    pub unmet: u64,
+}
+
+/// Returns the exit status of a survey of all orders: 8 where a Deferred wasn't as the script
+/// expects in some, else 0 where all runs ended in one way, and 6 where they didn't.
+pub fn survey_status(sums: Sums) -> u8
+    ensures { result ≡ survey_status sums }
 {
-    if outcomes <= 1 { 0 } else { 6 }
+    if sums.unmet > 0 {
+        8
+    } else if sums.outcomes <= 1 {
+        0
+    } else {
+        6
+    }
 }
 
 /// Returns the exit status of a survey that failed: 7 where there are too many orders, and

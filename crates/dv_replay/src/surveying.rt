@@ -14,6 +14,7 @@ ghost use Rattle.dv_survey.specs.Text.{number_text, survey_text};
 ghost use Rattle.std.specs.Io.KnownBytes.{Appends};
 
 use crate::error::SurveyFault;
+use crate::exit::Sums;
 use crate::performing::perform_alone;
 use dv_jobs::gate::Gate;
 use dv_journal::error::PrintFault;
@@ -73,7 +74,7 @@ where
             &script.classes,
             batches,
             report.outcomes.as_slice(),
-            report.stopped,
+            report.journal.ending(report.stopped),
         );
         report.discard();
         added
@@ -247,7 +248,8 @@ fn text_of(alloc: Global, orders: u64, survey: &Survey) -> Result<String, AllocE
 }
 
 /// Runs a script in the chosen orders of its posts, where there are no more than may run, and
-/// writes what became of its Deferreds. Returns in how many ways they ended.
+/// writes what became of its Deferreds. Returns in how many ways they ended, and in how many orders
+/// one wasn't as the script expects.
 fn print_orders<S, W, G>(
     rt: &S,
     script: &Script,
@@ -255,15 +257,15 @@ fn print_orders<S, W, G>(
     gate: &G,
     format: Format,
     chosen: Chosen,
-) -> Result<usize, SurveyFault>
+) -> Result<Sums, SurveyFault>
 where
     S: Threads + Wait + RandomSource + AllocGlobal,
     W: Sink,
     G: Gate,
     requires limited { script.now.limit < 2 ^ 32 - 1 }
     requires pools { length script.now.pools ≤ MOST_POOLS }
-    ensures ok { IfOk result (λ outcomes. PrintsOrders format chosen (W.taken writer.old)
-        (W.taken writer.new) outcomes script.now) }
+    ensures ok { IfOk result (λ sums. PrintsOrders format chosen (W.taken writer.old)
+        (W.taken writer.new) sums script.now) }
     ensures err { IfErr result (λ fault. OrdersGiveUp format fault chosen (W.taken writer.old)
         (W.taken writer.new) script.now) }
     ensures writer { WriterFailed result (W.failures writer.old) (W.failures writer.new) }
@@ -280,7 +282,10 @@ where
         return Err(SurveyFault::Run(RunFault::OutOfMemory));
     };
     match print_survey(alloc, ran(chosen, orders), &survey, writer) {
-        Ok(()) => Ok(survey.outcomes_len()),
+        Ok(()) => Ok(Sums {
+            outcomes: survey.outcomes_len(),
+            unmet: survey.unmet(),
+        }),
         Err(fault) => Err(SurveyFault::Run(fault.into())),
     }
 }
@@ -292,7 +297,7 @@ where
 /// each of its ends, and a line for each outcome of a run: in how many orders it came, and the
 /// batches of the first. All is written in this format, which should name the size of the sample.
 /// Returns in how many ways the runs ended: 1 where no order that ran makes a difference to any
-/// Deferred.
+/// Deferred; and how many ended since a Deferred wasn't as the script expects.
 ///
 /// TooMany where there are more orders than may run, and for a sample where there are more than 64
 /// bits count: nothing was performed, and nothing written. The other errors come as in
@@ -304,14 +309,14 @@ pub fn survey<S, R, W, G>(
     gate: &G,
     format: Format,
     chosen: Chosen,
-) -> Result<usize, SurveyFault>
+) -> Result<Sums, SurveyFault>
 where
     S: Threads + Wait + RandomSource + AllocGlobal,
     R: Source,
     W: Sink,
     G: Gate,
-    ensures ok { IfOk result (λ outcomes. Surveys format chosen (R.left reader.old)
-        (W.taken writer.old) (W.taken writer.new) outcomes) }
+    ensures ok { IfOk result (λ sums. Surveys format chosen (R.left reader.old)
+        (W.taken writer.old) (W.taken writer.new) sums) }
     ensures err { IfErr result (λ fault. GivesUp format fault chosen (R.left reader.old)
         (W.taken writer.old) (W.taken writer.new)) }
     ensures reader { ReaderFailed result (R.failures reader.old) (R.failures reader.new) }
@@ -323,9 +328,9 @@ where
         Err(fault) => return Err(SurveyFault::Run(fault)),
     };
     match print_orders(rt, &script, writer, gate, format, chosen) {
-        Ok(outcomes) => {
+        Ok(sums) => {
             script.discard();
-            Ok(outcomes)
+            Ok(sums)
         }
         Err(fault) => {
             script.discard();

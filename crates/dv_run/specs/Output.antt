@@ -1,18 +1,10 @@
 -- The lines that print the outcomes of a run.
 use Rattle.std.specs.Prelude.{ℕ, suc, nat_eq, if◌then◌else◌, List, [], ◌∷◌, ◌++◌, codes}
-use Rattle.dv_value.specs.ValueText.{outcome}
 use Rattle.dv_value.specs.declared.classes.Class.{Class}
-use Rattle.dv_journal.specs.Line.{text_of, hash, name_text}
+use Rattle.dv_journal.specs.Line.{text_of, name_text}
+use Rattle.dv_journal.specs.State.{hash, state_text}
 use Rattle.dv_store.specs.declared.outcome.Outcome.{Outcome}
 use Rattle.dv_engine.specs.declared.report.Report.{Report}
-use Rattle.dv_store.specs.declared.outcome.State.{State}
-use Rattle.dv_store.specs.declared.outcome.State.TheVariants.{Unfired, Waiting, Fired}
-
--- unfired, waiting for another, or what it was fired with: `ok` and a value, or `fail` and a failure
-abbrev pub state_text : List Class → State → List ℕ
-state_text table Unfired = codes "unfired"
-state_text table (Waiting id) = codes "waiting " ++ hash id
-state_text table (Fired value) = outcome table value
 
 -- a paused one is printed as such
 abbrev pub pauses_text : ℕ → List ℕ

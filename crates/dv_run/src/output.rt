@@ -1,48 +1,23 @@
 ghost use Rattle.std.specs.Prelude.{◌≡◌, ◌++◌, OnOk, OnErr, IsErrOf, codes, string_bytes};
 ghost use Rattle.std.specs.Io.KnownBytes.{Appends};
 ghost use Rattle.dv_journal.specs.Sink.{HasFailed, AppendsPrefix};
-ghost use Rattle.dv_journal.specs.Line.{hash, name_text};
-ghost use Rattle.dv_run.specs.Output.{pauses_text, state_text, outcome_line, output, report_text};
+ghost use Rattle.dv_journal.specs.Line.{name_text};
+ghost use Rattle.dv_journal.specs.State.{hash};
+ghost use Rattle.dv_run.specs.Output.{pauses_text, outcome_line, output, report_text};
 
 use dv_engine::report::Report;
-use dv_journal::deferred_id::DeferredId;
 use dv_journal::error::PrintFault;
-use dv_journal::line::shown_name;
+use dv_journal::line::{shown_name, write_state};
 use dv_journal::sink::{Sink, write_all, write_when_full};
-use dv_store::outcome::{Outcome, State};
+use dv_store::outcome::Outcome;
 use dv_value::classes::Classes;
-use dv_value::value_text::write_outcome;
-use dv_value::writing::{write_space, write_text, write_u32, write_u64};
+use dv_value::writing::{write_space, write_text, write_u64};
 use std::alloc::{AllocError, Global};
 
 fn pauses_text(pauses: u32) -> &'static str
     ensures { result.now ≡ pauses_text pauses }
 {
     if pauses == 0 { "" } else { "paused " }
-}
-
-fn write_waiting(line: &mut String, id: DeferredId) -> Result<(), AllocError>
-    ensures { OnOk result
-        (string_bytes line.new ≡ string_bytes line.old ++ (codes "waiting " ++ hash id)) }
-{
-    write_text(line, "waiting #")?;
-    write_u32(line, id.number())
-}
-
-fn write_state(
-    alloc: Global,
-    classes: &Classes,
-    line: &mut String,
-    state: &State,
-) -> Result<(), AllocError>
-    ensures { OnOk result
-        (string_bytes line.new ≡ string_bytes line.old ++ state_text classes.now state.now) }
-{
-    match state {
-        State::Unfired => write_text(line, "unfired"),
-        State::Waiting(id) => write_waiting(line, *id),
-        State::Fired(value) => write_outcome(alloc, classes, line, value),
-    }
 }
 
 /// Adds what a line shows before the state: the number, the name, and whether it is paused.

@@ -1,4 +1,6 @@
 use crate::action::Action;
+use crate::expected::Expected;
+use dv_value::text::Text;
 
 /// What happens in a script, one after the other.
 #[derive(Drop)]
@@ -9,4 +11,6 @@ pub enum Event {
     Advance(u64),
     /// Performs so many posts at most, and no more than 2,048.
     Drain(u32),
+    /// The Deferred of this name is as it is expected to be, or the run ends.
+    Expect(Text, Expected),
 }

@@ -1,5 +1,6 @@
 ghost use Rattle.std.specs.Prelude.{◌≡◌, ◌↔◌, IsTrue};
 ghost use Rattle.dv_value.specs.declared.value.Value.{Null, Bool, Int, Text as ValueText};
+ghost use Rattle.dv_script.specs.Same.{is_same};
 
 use crate::work::Work;
 use dv_value::failure::{Failure, Sub};
@@ -24,6 +25,14 @@ pub fn is_same_work(first: &Work, second: &Work) -> bool
             Work::Value(_) | Work::Raise(_, _) => false,
         },
     }
+}
+
+/// Whether two values are equal.
+pub fn is_same_value(first: &Value, second: &Value) -> bool
+    ensures equal { IsTrue result ↔ (first.now ≡ second.now) }
+    ensures result { result ≡ is_same first.now second.now }
+{
+    is_same(first, second)
 }
 
 /// Whether two values are equal.

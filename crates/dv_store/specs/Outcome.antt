@@ -2,8 +2,8 @@
 use Rattle.std.specs.Prelude.{ℕ, Bool, if◌then◌else◌, Option, None, Some}
 use Rattle.dv_value.specs.declared.value.Value.{Value}
 use Rattle.dv_store.specs.declared.outcome.Outcome.{Outcome}
-use Rattle.dv_store.specs.declared.outcome.State.{State}
-use Rattle.dv_store.specs.declared.outcome.State.TheVariants.{Unfired, Waiting, Fired}
+use Rattle.dv_journal.specs.declared.state.State.{State}
+use Rattle.dv_journal.specs.declared.state.State.TheVariants.{Unfired, Waiting, Fired}
 use Rattle.dv_store.specs.declared.record.Record.{Record}
 
 -- a fired Deferred waits for another, or has a value

@@ -3,21 +3,11 @@ ghost use Rattle.dv_store.specs.Outcome.{state_of, outcome_of};
 
 use crate::record::Record;
 use dv_journal::deferred_id::DeferredId;
+use dv_journal::state::State;
 use dv_value::items::Items;
 use dv_value::text::Text;
 use dv_value::value::Value;
 use std::alloc::{AllocError, Global};
-
-/// Whether a Deferred is fired, and with what.
-#[derive(Debug, Drop)]
-pub enum State {
-    /// Not fired in this run.
-    Unfired,
-    /// Fired, and waiting at the end for the value of this one, which a side of it gave.
-    Waiting(DeferredId),
-    /// Fired, and of this value at the end.
-    Fired(Value),
-}
 
 /// A Deferred at the end of a run.
 #[derive(Debug, Drop)]

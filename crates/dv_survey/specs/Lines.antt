@@ -9,8 +9,8 @@ use Rattle.dv_value.specs.ValueText.{json, outcome}
 use Rattle.dv_value.specs.declared.classes.Class.{Class}
 use Rattle.dv_journal.specs.Line.{name_text}
 use Rattle.dv_store.specs.declared.outcome.Outcome.{Outcome}
-use Rattle.dv_store.specs.declared.outcome.State.{State}
-use Rattle.dv_store.specs.declared.outcome.State.TheVariants.{Unfired, Waiting, Fired}
+use Rattle.dv_journal.specs.declared.state.State.{State}
+use Rattle.dv_journal.specs.declared.state.State.TheVariants.{Unfired, Waiting, Fired}
 use Rattle.dv_survey.specs.declared.format.Format.{Format}
 use Rattle.dv_survey.specs.declared.format.Format.TheVariants.{Lines, Json}
 use Rattle.dv_survey.specs.declared.lines.Line.{Line}

@@ -1,6 +1,8 @@
 -- What is gathered over the runs of a script.
-use Rattle.std.specs.Prelude.{ℕ, Bool, if◌then◌else◌, List, [], ◌∷◌, ◌++◌, fold, length, slice_get}
+use Rattle.std.specs.Prelude.{ℕ, if◌then◌else◌, List, [], ◌∷◌, ◌++◌, fold, length, slice_get}
 use Rattle.std.specs.Option.{option_map_or}
+use Rattle.dv_journal.specs.Ending.{is_at_limit, is_unmet_end}
+use Rattle.dv_journal.specs.declared.ending.Ending.{Ending}
 use Rattle.dv_posts.specs.Batches.{Batch}
 use Rattle.dv_store.specs.declared.outcome.Outcome.{Outcome}
 use Rattle.dv_value.specs.declared.classes.Class.{Class}
@@ -12,15 +14,15 @@ use Rattle.dv_survey.specs.declared.format.Format.{Format}
 use Rattle.dv_survey.specs.declared.lines.Line.{Line}
 use Rattle.dv_survey.specs.declared.survey.Survey.{Survey}
 
--- a run that has ended: its batches, what became of its Deferreds, and whether it stopped at the limit of the journal
+-- a run that has ended: its batches, what became of its Deferreds, and how it ended
 pub record Run : Type 0 where
   pub batches : List Batch
   pub outcomes : List Outcome
-  pub stopped : Bool
+  pub ending : Ending
 
 -- the run of these batches that ended so
-abbrev pub run_of : List Batch → List Outcome → Bool → Run
-run_of batches outcomes stopped = record { batches = batches; outcomes = outcomes; stopped = stopped }
+abbrev pub run_of : List Batch → List Outcome → Ending → Run
+run_of batches outcomes ending = record { batches = batches; outcomes = outcomes; ending = ending }
 
 -- nothing is gathered yet
 abbrev pub no_runs : Format → Survey
@@ -33,6 +35,7 @@ no_runs format = record {
   outcomes = [];
   ends = [];
   stops = [];
+  unmet = [];
 }
 
 -- the line of this place is one of this Deferred, unless it was met before
@@ -50,15 +53,16 @@ with_line batches survey line = record {
   outcomes = survey.outcomes;
   ends = survey.ends;
   stops = survey.stops;
+  unmet = survey.unmet;
 }
 
 -- these lines came in a run of these batches
 abbrev pub with_lines : List Batch → List Line → Survey → Survey
 with_lines batches lines survey = fold (with_line batches) survey lines
 
--- a run of these batches ended with this outcome, and stopped at the limit or didn't
-abbrev pub with_outcome : List Batch → List ℕ → Bool → Survey → Survey
-with_outcome batches outcome stopped survey = record {
+-- a run of these batches ended with this outcome, and so
+abbrev pub with_outcome : List Batch → List ℕ → Ending → Survey → Survey
+with_outcome batches outcome ending survey = record {
   format = survey.format;
   deferreds = survey.deferreds;
   lines = survey.lines;
@@ -66,18 +70,19 @@ with_outcome batches outcome stopped survey = record {
   tallies = survey.tallies;
   outcomes = with_text outcome survey.outcomes;
   ends = with_tally (place_of outcome survey.outcomes) batches survey.ends;
-  stops = if stopped then with_tally 0 batches survey.stops else survey.stops;
+  stops = if is_at_limit ending then with_tally 0 batches survey.stops else survey.stops;
+  unmet = if is_unmet_end ending then with_tally 0 batches survey.unmet else survey.unmet;
 }
 
--- a run of these batches ended with the lines of these places, and stopped at the limit or didn't
-abbrev pub with_end : List Batch → List ℕ → Bool → Survey → Survey
-with_end batches places stopped survey = with_outcome batches (outcome_text places (length survey.lines)) stopped survey
+-- a run of these batches ended with the lines of these places, and so
+abbrev pub with_end : List Batch → List ℕ → Ending → Survey → Survey
+with_end batches places ending survey = with_outcome batches (outcome_text places (length survey.lines)) ending survey
 
 -- a run is gathered
 abbrev pub with_run : List Class → Survey → Run → Survey
 with_run table survey run =
     let lines = lines_of survey.format table run.outcomes in
-    with_end run.batches (places_after survey.lines lines) run.stopped (with_lines run.batches lines survey)
+    with_end run.batches (places_after survey.lines lines) run.ending (with_lines run.batches lines survey)
 
 -- all these runs are gathered, in this order
 abbrev pub survey_of : Format → List Class → List Run → Survey

@@ -1,4 +1,4 @@
--- In how many runs each line came, each outcome, and a stop.
+-- In how many runs each line came, each outcome, a stop, and what a script doesn't expect.
 use Rattle.std.specs.Prelude.{ℕ, ◌+◌, List, [], ◌∷◌, ◌++◌, slice_get, slice_set}
 use Rattle.std.specs.Option.{option_map_or}
 use Rattle.dv_posts.specs.Batches.{Batch}
@@ -17,3 +17,7 @@ abbrev pub with_tally : ℕ → List Batch → List Tally → List Tally
 with_tally place batches tallies =
     option_map_or (λ tally. slice_set tallies place (with_one_more tally)) (slice_get tallies place)
     (tallies ++ first_tally batches ∷ [])
+
+-- in how many runs something came of which there is one tally, or none
+abbrev pub count_of : List Tally → ℕ
+count_of tallies = option_map_or (λ tally. tally.count) (slice_get tallies 0) 0

@@ -9,6 +9,7 @@ use Rattle.dv_value.specs.ValueText.{list_text}
 use Rattle.dv_survey.specs.Lines.{sample_json, size_json}
 use Rattle.dv_survey.specs.declared.format.Format.{Format}
 use Rattle.dv_survey.specs.declared.format.Format.TheVariants.{Lines, Json}
+use Rattle.dv_survey.specs.Tallies.{count_of}
 use Rattle.dv_survey.specs.declared.survey.Survey.{Survey}
 use Rattle.dv_survey.specs.declared.tallies.Tally.{Tally}
 
@@ -106,27 +107,33 @@ stop_name (Json sample) = codes "\"sample\":" ++ size_json sample ++ codes ",\"t
 abbrev pub stops_text : Survey → List ℕ
 stops_text survey = text_at survey.format survey.stops 0 (stop_name survey.format)
 
--- how many orders stopped
-abbrev pub stopped_of : List Tally → ℕ
-stopped_of stops = option_map_or (λ tally. tally.count) (slice_get stops 0) 0
+-- a Deferred wasn't as the script expects
+abbrev pub unmet_name : Format → List ℕ
+unmet_name (Lines sample) = codes "unmet"
+unmet_name (Json sample) = codes "\"sample\":" ++ size_json sample ++ codes ",\"type\":\"unmet\""
+
+-- a line of the orders in which one wasn't, where there are any
+abbrev pub unmet_text : Survey → List ℕ
+unmet_text survey = text_at survey.format survey.unmet 0 (unmet_name survey.format)
 
 -- as JSON, how many outcomes there are
 abbrev pub outcomes_json : ℕ → List ℕ
 outcomes_json outcomes = codes ",\"outcomes\":" ++ decimal outcomes
 
--- as JSON, how many orders stopped, and the end of the line
-abbrev pub end_json : ℕ → List ℕ
-end_json stopped = codes ",\"stopped\":" ++ decimal stopped ++ codes ",\"type\":\"end\"}\n"
+-- as JSON, how many orders stopped, in how many a Deferred wasn't as the script expects, and the end of the line
+abbrev pub end_json : ℕ → ℕ → List ℕ
+end_json stopped unmet =
+    codes ",\"stopped\":" ++ decimal stopped ++ codes ",\"type\":\"end\",\"unmet\":" ++ decimal unmet ++ codes "}\n"
 
 -- how many orders ran, and how many different outcomes there are
-abbrev pub sums_text : Format → ℕ → ℕ → ℕ → List ℕ
-sums_text (Lines sample) stopped orders outcomes =
+abbrev pub sums_text : Format → ℕ → ℕ → ℕ → ℕ → List ℕ
+sums_text (Lines sample) stopped unmet orders outcomes =
     counted orders (noun sample) ++ codes ", " ++ counted outcomes (codes "outcome") ++ codes "\n"
-sums_text (Json sample) stopped orders outcomes =
-    orders_json orders ++ outcomes_json outcomes ++ sample_json sample ++ end_json stopped
+sums_text (Json sample) stopped unmet orders outcomes =
+    orders_json orders ++ outcomes_json outcomes ++ sample_json sample ++ end_json stopped unmet
 
--- what became of each Deferred, each outcome, where orders stopped, and the sums
+-- what became of each Deferred, each outcome, where orders stopped, where one wasn't as expected, and the sums
 abbrev pub survey_text : Survey → ℕ → List ℕ
 survey_text survey orders =
-    deferreds_text survey ++ outcomes_text survey ++ stops_text survey
-    ++ sums_text survey.format (stopped_of survey.stops) orders (length survey.outcomes)
+    deferreds_text survey ++ outcomes_text survey ++ stops_text survey ++ unmet_text survey
+    ++ sums_text survey.format (count_of survey.stops) (count_of survey.unmet) orders (length survey.outcomes)

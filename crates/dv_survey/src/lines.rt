@@ -13,8 +13,9 @@ ghost use Rattle.dv_survey.specs.Met.{met_of};
 
 use crate::format::Format;
 use dv_journal::line::shown_name;
+use dv_journal::state::State;
 use dv_objects::names::Names;
-use dv_store::outcome::{Outcome, State};
+use dv_store::outcome::Outcome;
 use dv_value::classes::Classes;
 use dv_value::items::Items;
 use dv_value::text::Text;

@@ -1,15 +1,16 @@
-ghost use Rattle.std.specs.Prelude.{◌≡◌, if◌then◌else◌, length, OnOk, IfOk};
+ghost use Rattle.std.specs.Prelude.{◌≡◌, length, OnOk, IfOk};
 ghost use Rattle.dv_survey.specs.Outcomes.{places_after};
 ghost use Rattle.dv_survey.specs.Texts.{place_of};
 ghost use Rattle.dv_survey.specs.Survey.{no_runs, run_of, with_end, with_line, with_lines};
 ghost use Rattle.dv_survey.specs.Survey.{with_outcome, with_owner, with_run};
-ghost use Rattle.dv_survey.specs.Tallies.{with_tally};
+ghost use Rattle.dv_survey.specs.Tallies.{count_of};
 
 use crate::format::Format;
 use crate::lines::{Line, lines_of};
 use crate::outcomes::outcome_text;
-use crate::tallies::Tallies;
+use crate::tallies::{Tallies, count_of};
 use crate::texts::Texts;
+use dv_journal::ending::Ending;
 use dv_posts::posted::Posted;
 use dv_store::outcome::Outcome;
 use dv_value::classes::Classes;
@@ -38,6 +39,8 @@ pub struct Survey {
     pub ends: Tallies,
     /// In how many runs the journal reached its limit: one tally, or none.
     pub stops: Tallies,
+    /// In how many runs a Deferred wasn't as the script expects: one tally, or none.
+    pub unmet: Tallies,
 }
 
 impl Survey {
@@ -55,11 +58,12 @@ impl Survey {
             outcomes: Texts::new(alloc, keys),
             ends: Tallies::new(alloc),
             stops: Tallies::new(alloc),
+            unmet: Tallies::new(alloc),
         }
     }
 
-    /// Adds a run that took these batches, ended with these outcomes, and stopped at the limit of
-    /// the journal or didn't. Names are hashed with these keys.
+    /// Adds a run that took these batches, and ended so with these outcomes. Names are hashed with
+    /// these keys.
     ///
     /// AllocError when out of memory, or where a count passes 2^64. Part of the run may be added
     /// then.
@@ -70,14 +74,14 @@ impl Survey {
         classes: &Classes,
         batches: &[Items<Posted>],
         outcomes: &[Outcome],
-        stopped: bool,
+        ending: Ending,
     ) -> Result<(), AllocError>
         ensures { OnOk result
-            (self.new ≡ with_run classes.now self.old (run_of batches.now outcomes.now stopped)) }
+            (self.new ≡ with_run classes.now self.old (run_of batches.now outcomes.now ending)) }
     {
         let lines = lines_of(alloc, keys, self.format, classes, outcomes)?;
         let places = self.add_lines(alloc, batches, lines.as_slice())?;
-        self.add_end(alloc, batches, places.as_slice(), stopped)
+        self.add_end(alloc, batches, places.as_slice(), ending)
     }
 
     /// Adds lines, and returns their places.
@@ -115,29 +119,36 @@ impl Survey {
         alloc: Global,
         batches: &[Items<Posted>],
         places: &[usize],
-        stopped: bool,
+        ending: Ending,
     ) -> Result<(), AllocError>
-        ensures { OnOk result (self.new ≡ with_end batches.now places.now stopped self.old) }
+        ensures { OnOk result (self.new ≡ with_end batches.now places.now ending self.old) }
     {
         let text = outcome_text(alloc, places, self.lines.len())?;
-        self.add_outcome(batches, text.as_str(), stopped)
+        self.add_outcome(batches, text.as_str(), ending)
     }
 
     fn add_outcome(
         &mut self,
         batches: &[Items<Posted>],
         outcome: &str,
-        stopped: bool,
+        ending: Ending,
     ) -> Result<(), AllocError>
-        ensures { OnOk result (self.new ≡ with_outcome batches.now outcome.now stopped self.old) }
+        ensures { OnOk result (self.new ≡ with_outcome batches.now outcome.now ending self.old) }
     {
         let place = self.outcomes.add(outcome)?;
         self.ends.count(place, batches)?;
-        if stopped {
-            self.stops.count(0, batches)
-        } else {
-            Ok(())
+        match ending {
+            Ending::Over => Ok(()),
+            Ending::AtLimit => self.stops.count(0, batches),
+            Ending::Unmet => self.unmet.count(0, batches),
         }
+    }
+
+    /// Counts the runs that ended since a Deferred wasn't as the script expects.
+    pub fn unmet(&self) -> u64
+        ensures { result ≡ count_of self.now.unmet }
+    {
+        count_of(self.unmet.as_slice())
     }
 
     /// Counts the different outcomes of the runs, whichever Deferreds were made first.

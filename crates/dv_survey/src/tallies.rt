@@ -1,12 +1,12 @@
 ghost use Rattle.std.specs.Prelude.{◌≡◌, [], OnOk, IfOk};
-ghost use Rattle.dv_survey.specs.Tallies.{with_one_more};
+ghost use Rattle.dv_survey.specs.Tallies.{count_of, with_one_more};
 
 use dv_posts::posted::{Posted, copy_of_batch};
 use dv_value::items::Items;
 use std::alloc::{AllocError, Global};
 use std::marker::Model;
 
-/// In how many runs something came: a line, an outcome, or a stop.
+/// In how many runs something came: a line, an outcome, a stop, or what a script doesn't expect.
 #[derive(Debug, Drop)]
 pub struct Tally {
     /// In how many runs it came.
@@ -63,6 +63,16 @@ impl Tallies {
         ensures { result.now ≡ self.now }
     {
         self.tallies.as_slice()
+    }
+}
+
+/// In how many runs something came of which there is one tally, or none.
+pub fn count_of(tallies: &[Tally]) -> u64
+    ensures { result ≡ count_of tallies.now }
+{
+    match tallies.first() {
+        None => 0,
+        Some(tally) => tally.count,
     }
 }
 

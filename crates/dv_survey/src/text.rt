@@ -7,22 +7,24 @@ ghost use Rattle.dv_survey.specs.Text.{deferred_text, deferreds_text, is_of, lin
 ghost use Rattle.dv_survey.specs.Text.{tally_tail, tally_text, text_at};
 ghost use Rattle.dv_survey.specs.Text.{end_json, noun, number_text, orders_json, outcome_name};
 ghost use Rattle.dv_survey.specs.Text.{outcomes_json, outcomes_text, sample_text};
-ghost use Rattle.dv_survey.specs.Text.{stop_name, stopped_of, stops_text, sums_text, survey_text};
+ghost use Rattle.dv_survey.specs.Text.{stop_name, stops_text, sums_text, survey_text};
+ghost use Rattle.dv_survey.specs.Text.{unmet_name, unmet_text};
 ghost use Rattle.dv_survey.specs.declared.format.Format.TheVariants as Format;
 
 use crate::format::Format;
 use crate::lines::{write_sample_json, write_size_json};
 use crate::survey::Survey;
-use crate::tallies::Tally;
+use crate::tallies::{Tally, count_of};
 use crate::texts::Texts;
 use dv_posts::posted::Posted;
 use dv_value::items::Items;
 use dv_value::writing::{write_space, write_text, write_u32, write_u64};
 use std::alloc::AllocError;
 
-/// Adds what became of each Deferred, a line for each of its states, a line for each outcome, and
-/// one for the orders that stopped at the limit of the journal, if any did: in how many orders that
-/// came, and the batches of the first. Then come how many orders ran, and how many different
+/// Adds what became of each Deferred, a line for each of its states, a line for each outcome, one
+/// for the orders that stopped at the limit of the journal, if any did, and one for those in which
+/// a Deferred wasn't as the script expects: in how many orders that came, and the batches of the
+/// first. Then come how many orders ran, and how many different
 /// outcomes there are.
 pub fn write_survey(out: &mut String, survey: &Survey, orders: u64) -> Result<(), AllocError>
     ensures { OnOk result
@@ -31,10 +33,12 @@ pub fn write_survey(out: &mut String, survey: &Survey, orders: u64) -> Result<()
     write_deferreds(out, survey)?;
     write_outcomes(out, survey)?;
     write_stops(out, survey)?;
+    write_unmet(out, survey)?;
     write_sums(
         out,
         survey.format,
-        stopped_of(survey.stops.as_slice()),
+        count_of(survey.stops.as_slice()),
+        survey.unmet(),
         orders,
         survey.outcomes_len() as u64,
     )
@@ -313,12 +317,34 @@ fn write_stop_name(out: &mut String, format: Format) -> Result<(), AllocError>
     }
 }
 
-fn stopped_of(stops: &[Tally]) -> u64
-    ensures { result ≡ stopped_of stops.now }
+fn write_unmet(out: &mut String, survey: &Survey) -> Result<(), AllocError>
+    ensures { OnOk result (string_bytes out.new ≡ string_bytes out.old ++ unmet_text survey.now) }
 {
-    match stops.first() {
-        None => 0,
-        Some(tally) => tally.count,
+    match survey.unmet.as_slice().first() {
+        None => Ok(()),
+        Some(tally) => write_unmet_tally(out, survey.format, tally),
+    }
+}
+
+fn write_unmet_tally(out: &mut String, format: Format, tally: &Tally) -> Result<(), AllocError>
+    ensures { OnOk result (string_bytes out.new
+        ≡ string_bytes out.old ++ tally_text format tally.now (unmet_name format)) }
+{
+    write_head(out, format, tally)?;
+    write_unmet_name(out, format)?;
+    write_tail(out, format, tally)
+}
+
+fn write_unmet_name(out: &mut String, format: Format) -> Result<(), AllocError>
+    ensures { OnOk result (string_bytes out.new ≡ string_bytes out.old ++ unmet_name format) }
+{
+    match format {
+        Format::Lines(_) => write_text(out, "unmet"),
+        Format::Json(sample) => {
+            write_text(out, "\"sample\":")?;
+            write_size_json(out, sample)?;
+            write_text(out, ",\"type\":\"unmet\"")
+        }
     }
 }
 
@@ -326,11 +352,12 @@ fn write_sums(
     out: &mut String,
     format: Format,
     stopped: u64,
+    unmet: u64,
     orders: u64,
     outcomes: u64,
 ) -> Result<(), AllocError>
-    ensures { OnOk result
-        (string_bytes out.new ≡ string_bytes out.old ++ sums_text format stopped orders outcomes) }
+    ensures { OnOk result (string_bytes out.new
+        ≡ string_bytes out.old ++ sums_text format stopped unmet orders outcomes) }
 {
     match format {
         Format::Lines(sample) => write_sum(out, sample, orders, outcomes),
@@ -338,7 +365,7 @@ fn write_sums(
             write_orders_json(out, orders)?;
             write_outcomes_json(out, outcomes)?;
             write_sample_json(out, sample)?;
-            write_end_json(out, stopped)
+            write_end_json(out, stopped, unmet)
         }
     }
 }
@@ -350,7 +377,7 @@ fn write_sum(
     outcomes: u64,
 ) -> Result<(), AllocError>
     ensures { OnOk result (string_bytes out.new
-        ≡ string_bytes out.old ++ sums_text (Format.Lines sample) 0 orders outcomes) }
+        ≡ string_bytes out.old ++ sums_text (Format.Lines sample) 0 0 orders outcomes) }
 {
     write_counted(out, orders, noun(sample))?;
     write_text(out, ", ")?;
@@ -365,12 +392,14 @@ fn write_outcomes_json(out: &mut String, outcomes: u64) -> Result<(), AllocError
     write_u64(out, outcomes)
 }
 
-fn write_end_json(out: &mut String, stopped: u64) -> Result<(), AllocError>
-    ensures { OnOk result (string_bytes out.new ≡ string_bytes out.old ++ end_json stopped) }
+fn write_end_json(out: &mut String, stopped: u64, unmet: u64) -> Result<(), AllocError>
+    ensures { OnOk result (string_bytes out.new ≡ string_bytes out.old ++ end_json stopped unmet) }
 {
     write_text(out, ",\"stopped\":")?;
     write_u64(out, stopped)?;
-    write_text(out, ",\"type\":\"end\"}\n")
+    write_text(out, ",\"type\":\"end\",\"unmet\":")?;
+    write_u64(out, unmet)?;
+    write_text(out, "}\n")
 }
 
 /// Adds a number, and the noun in the number that it asks for.

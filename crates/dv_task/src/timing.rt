@@ -46,8 +46,9 @@ pub fn reset_call<'s>(
     Ok(())
 }
 
-/// Gives a Deferred so many ticks, by its name, after which it is cancelled, and the body, if there
-/// is one, runs on its result (Twisted: `Deferred.addTimeout`, its `onTimeoutCancel`).
+/// Looks up a Deferred by its name, and sets a timer on it. If that expires, it cancels the
+/// Deferred; the first pair that is added then runs the body, if there is one, on its input
+/// (Twisted: `Deferred.addTimeout`, its `onTimeoutCancel`).
 pub fn add_timeout<'s>(
     turn: &mut Turn<'s>,
     itself: Option<DeferredId>,

@@ -10,8 +10,9 @@ use crate::fault::fault;
 use crate::value::Value;
 use std::alloc::{AllocError, Global};
 
-/// The failure at a path in a value, each of whose numbers is a place in a list, from 0 on (Twisted:
-/// `Failure.raiseException`). TypeError where no failure is there. AllocError on allocation failure.
+/// The failure at a path in a value, each of whose numbers is a place in a list, from 0 on
+/// (Twisted: `Failure.raiseException`). TypeError where no failure is there. AllocError on
+/// allocation failure.
 pub fn throw(alloc: Global, path: &[u32], value: &Value) -> Result<Value, AllocError>
     ensures { IfOk result (λ v. v ≡ thrown_or_type_error (failure_at path.now value.now)) }
 {

@@ -389,7 +389,8 @@ no_parts_suit q (want.Other k) d h suit = all_suit (want.Other k) d suit (λ n v
 -- the arms of a match
 
 pub has_items : (w : Want) → (w ≡ want.Value)
-    ⊎ (((x : CallKind) × (w ≡ want.Call x)) ⊎ (((x : PairKind) × (w ≡ want.Pair x)) ⊎ ((x : Item) × (w ≡ want.Array x))))
+    ⊎ (((x : CallKind) × (w ≡ want.Call x)) ⊎ (((x : PairKind) × (w ≡ want.Pair x))
+    ⊎ ((x : Item) × (w ≡ want.Array x))))
     → HasItems w
 has_items w (inl e) = rw e tt
 has_items w (inr (inl e)) = rw (e.1) tt
@@ -406,7 +407,8 @@ has_no_parts w (inr (inr e)) = rw (e.1) tt
 pub no_keys : (q : Question) (w : Want) (d : Data)
     → ((x : Leaf) × (w ≡ want.Leaf x))
     ⊎ ((w ≡ want.Value) ⊎ (((x : CallKind) × (w ≡ want.Call x)) ⊎ (((x : PairKind) × (w ≡ want.Pair x))
-    ⊎ (((x : Item) × (w ≡ want.Array x)) ⊎ (((x : CallKind) × (w ≡ want.Word x)) ⊎ ((x : Keyed) × (w ≡ want.Other x)))))))
+    ⊎ (((x : Item) × (w ≡ want.Array x)) ⊎ (((x : CallKind) × (w ≡ want.Word x))
+    ⊎ ((x : Keyed) × (w ≡ want.Other x)))))))
     → OthersOf q w d
 no_keys q w d (inl e) = rw (e.1) tt
 no_keys q w d (inr (inl e)) = rw e tt

@@ -15,7 +15,7 @@ use Rattle.dv_script.specs.declared.limits.TheConstants.{MOST_POSTS}
 use Rattle.dv_clock.specs.declared.limits.TheConstants.{MOST_TICKS}
 use Rattle.dv_forms.specs.Forms.{Each, IsList, Field, Key}
 use Rattle.dv_grammar.specs.declared.draft.Draft.{Draft}
-use Rattle.dv_grammar.specs.Grammar.{IsAction, IsEvent, acts, advances, drains, IsScript}
+use Rattle.dv_grammar.specs.Grammar.{IsAction, IsEvent, acts, advances, drains, expects, IsScript}
 use Rattle.dv_forms.specs.Limits.{most_nodes}
 use Rattle.dv_forms.specs.Words.{action_words}
 use Rattle.dv_why.proofs.Actions.{action_begins}
@@ -94,6 +94,7 @@ event_ticks : (table : List Class) (d : Data) (e : Event) → IsEvent table d e 
 event_ticks table _ _ (acts d a g) = no_ticks table d a g
 event_ticks table _ _ (advances d n g) = rw (g.0) refl
 event_ticks table _ _ (drains d n g) = rw (g.0) refl
+event_ticks table _ _ (expects name d x g) = refl
 
 fold_sum : (k : ℕ) (ns : List ℕ) → fold ◌+◌ k ns ≡ k + sum ns
 fold_sum k [] = omega arith

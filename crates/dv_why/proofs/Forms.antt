@@ -95,6 +95,7 @@ own_last call_of.Statement = refl
 own_last call_of.End = refl
 own_last call_of.Leaving = refl
 own_last call_of.Work = refl
+own_last call_of.Outcome = refl
 
 at_last : (o : Option CallKind) (word : List ℕ) (v : ℕ) → has_word_at o word v ≡ true
     → has_word_at o word LAST_VERSION ≡ true

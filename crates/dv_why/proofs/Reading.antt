@@ -1,8 +1,8 @@
 -- Where each part of a value fits, it reads.
 use Rattle.std.proofs.Common.{Ordering, Less, Equal, Greater, is_eq, nat_cmp, ◌≡◌, ℕ, zero, suc, ◌≤◌, nat_eq, nat_le}
 use Rattle.std.proofs.Common.{nat_lt}
-use Rattle.std.proofs.Common.{Bool, true, false, ◌&&◌, ◌||◌, List, [], ◌∷◌, Option, Some, None, is_some, option_and_then}
-use Rattle.std.proofs.Common.{bytes_eq, refl}
+use Rattle.std.proofs.Common.{Bool, true, false, ◌&&◌, ◌||◌, List, [], ◌∷◌, Option, Some, None, is_some}
+use Rattle.std.proofs.Common.{option_and_then, bytes_eq, refl}
 use Rattle.std.proofs.Common.{sym, ap, subst, ◌∙◌, arith, codes}
 use Rattle.std.specs.List.{list_any}
 use Rattle.std.specs.Cmp.Lexicographic.{slice_cmp}
@@ -13,6 +13,7 @@ use Rattle.serde_json.specs.Data.{Data, string, array, object, Items, no_items, 
 use Rattle.serde_json.specs.Data.{depth}
 use Rattle.serde_json.specs.Find.{as_object, as_str, at, get_item, get_member}
 use Rattle.dv_value.specs.declared.classes.Class.{Class}
+use Rattle.dv_value.specs.declared.value.Value.{Fault}
 use Rattle.dv_script.specs.declared.body.End.{End}
 use Rattle.dv_script.specs.declared.body.End.TheVariants.{Return, Pass, Plus, Raise, Trap, Wait, Run, Throw}
 use Rattle.dv_script.specs.declared.body.Body.{Body}
@@ -29,6 +30,8 @@ use Rattle.dv_script.specs.declared.action.Action.{Cooperate, WhenDone, PauseTas
 use Rattle.dv_script.specs.declared.action.Action.{ThreadIn, Units}
 use Rattle.dv_script.specs.declared.event.Event.{Event}
 use Rattle.dv_script.specs.declared.event.Event.TheVariants as happens
+use Rattle.dv_script.specs.declared.expected.Expected.{Expected}
+use Rattle.dv_script.specs.declared.expected.Expected.TheVariants as expected
 use Rattle.dv_script.specs.declared.script.Cooperator.{Cooperator}
 use Rattle.dv_script.specs.declared.script.NamedBody.{NamedBody}
 use Rattle.dv_script.specs.declared.script.NamedPool.{NamedPool}
@@ -57,7 +60,8 @@ use Rattle.dv_grammar.specs.Grammar.{does_nothing, does, IsBody, body, body_by_n
 use Rattle.dv_grammar.specs.Grammar.{more_bodies, IsStatement}
 use Rattle.dv_grammar.specs.Grammar.{performs, awaits, tries, finishes, raises_again, takes_caught, leaves}
 use Rattle.dv_grammar.specs.Grammar.{AreStatements, no_statements, more_statements}
-use Rattle.dv_grammar.specs.Grammar.{IsEvent, acts, advances, drains, IsDeclaration, declares, IsPool, pools}
+use Rattle.dv_grammar.specs.Grammar.{IsOutcome, is_unfired, is_waiting, is_ok, is_failed}
+use Rattle.dv_grammar.specs.Grammar.{IsEvent, acts, advances, drains, expects, IsDeclaration, declares, IsPool, pools}
 use Rattle.dv_grammar.specs.Grammar.{IsCooperator, IsScript, IsBound, IsNamedBody, names_body}
 use Rattle.dv_grammar.proofs.WordsLemmas.{◌&◌}
 use Rattle.dv_forms.specs.declared.versions.TheConstants.{BODIES_SINCE, COMMENTS_SINCE, LAST_VERSION}
@@ -84,7 +88,7 @@ use Rattle.dv_why.proofs.Fine.{boolean_of, bound_of, list_flag_of, gather_flag_o
 use Rattle.dv_why.proofs.Fine.{AreFine, are_fine, no_args, one_arg, more_args, open_call}
 use Rattle.dv_why.proofs.Forms.{EachForm, either_found, found_form}
 use Rattle.dv_why.proofs.Parts.{both, here, value}
-use Rattle.dv_why.proofs.Values.{first_there, not_other, still_there, value_of}
+use Rattle.dv_why.proofs.Values.{failure_of, first_there, not_other, still_there, value_of}
 use Rattle.dv_why.proofs.Versions.{least_version, since_third, version_of}
 
 -- ---- texts and classes
@@ -303,6 +307,34 @@ work_fine v n table d h =
     let o = open_call v n call_of.Work d (fits_fine h) (λ k u e wants is. same k h wants is) in
     rw (o.whole) (either_found (wants_in (own_forms call_of.Work) o.word (count o.rest)) None o.wants o.form
     (λ form. found_form (IsWorkRead v n table) (own_forms call_of.Work) (works v n table) o.word
+    (count o.rest) o.wants form o.rest o.args)
+    (λ form. cc))
+
+-- as those of what is expected
+abbrev IsOutcomeRead : ℕ → ℕ → List Class → List ℕ → List Want → Type 0
+IsOutcomeRead v n table word wants =
+    (ds : Items) → AreFine v n wants ds → (x : Expected) × IsOutcome table (array (item (string word) ds)) x
+
+outcomes : (v n : ℕ) (table : List Class) → EachForm (IsOutcomeRead v n table) (own_forms call_of.Outcome)
+outcomes v n table =
+    (λ ds h. rw (no_args v n ds h) (expected.Unfired, is_unfired)) &
+    (λ ds h. rw (no_args v n ds h) (expected.Waiting, is_waiting)) &
+    (λ ds h.
+    let a = one_arg v n want.Value ds h in
+    let x = value_of v n table a.a a.fine in
+    rw (a.items) (expected.Fired x.0, is_ok a.a x.0 x.1)) &
+    (λ ds h.
+    let a = one_arg v n (want.Keyed keyed.Failure) ds h in
+    let f = failure_of v n table a.a a.fine in
+    rw (a.items) (expected.Fired (Fault f.0), is_failed a.a f.0 f.1)) &
+    tt
+
+outcome_fine : (v n : ℕ) (table : List Class) (d : Data) → IsFine v n (want.Call call_of.Outcome) d
+    → (x : Expected) × IsOutcome table d x
+outcome_fine v n table d h =
+    let o = open_call v n call_of.Outcome d (fits_fine h) (λ k u e wants is. same k h wants is) in
+    rw (o.whole) (either_found (wants_in (own_forms call_of.Outcome) o.word (count o.rest)) None o.wants o.form
+    (λ form. found_form (IsOutcomeRead v n table) (own_forms call_of.Outcome) (outcomes v n table) o.word
     (count o.rest) o.wants form o.rest o.args)
     (λ form. cc))
 
@@ -579,7 +611,8 @@ last_of v n table (Some d) h = end_fine v n table d (h d refl)
 shaped : (v : ℕ) {n : ℕ} (since : ℕ) (d : Data) → IsFine v n (want.Keyed (keyed.Body since)) d
     → (is_some (as_object d) || (is_some (as_str d) && nat_le BODIES_SINCE v)) ≡ true
 shaped v since d h =
-    (and_parts (nat_le since v) (is_some (as_object d) || (is_some (as_str d) && nat_le BODIES_SINCE v)) (fits_fine h)).1
+    (and_parts (nat_le since v) (is_some (as_object d) || (is_some (as_str d) && nat_le BODIES_SINCE v))
+    (fits_fine h)).1
 
 body_of : (v n : ℕ) (table : List Class) → AreRead v n table → {since : ℕ} (d : Data)
     → IsFine v (suc n) (want.Keyed (keyed.Body since)) d → (b : Body) × IsBody table d b
@@ -589,7 +622,8 @@ body_of v n table r {since} (object ms) h =
     (record { actions = xs.0; end = x.0 }, body ms xs.0 x.0 (body_only v since ms h.suit) xs.1 x.1)
 body_of v n table r {since} (string x) h = (running x, body_by_name x)
 body_of v n table r {since} d h =
-    let shape : (is_some (as_object d) || (is_some (as_str d) && nat_le BODIES_SINCE v)) ≡ true = shaped v since d h in cc
+    let shape : (is_some (as_object d) || (is_some (as_str d) && nat_le BODIES_SINCE v)) ≡ true =
+    shaped v since d h in cc
 
 -- the arguments of a word read as those of a statement
 abbrev IsStatementRead : ℕ → ℕ → List Class → List ℕ → List Want → Type 0
@@ -645,7 +679,8 @@ no_body : (v : ℕ) (table : List Class) {since : ℕ} (d : Data) → IsFine v 0
 no_body v table {since} (object ms) h = let deep : depth (object ms) ≤ 0 = h.deep in absurd (omega (arith, deep))
 no_body v table {since} (string x) h = (running x, body_by_name x)
 no_body v table {since} d h =
-    let shape : (is_some (as_object d) || (is_some (as_str d) && nat_le BODIES_SINCE v)) ≡ true = shaped v since d h in cc
+    let shape : (is_some (as_object d) || (is_some (as_str d) && nat_le BODIES_SINCE v)) ≡ true =
+    shaped v since d h in cc
 
 no_statement : (v : ℕ) (table : List Class) (d : Data) → IsFine v 0 (want.Call call_of.Statement) d
     → (s : Statement) × IsStatement table d s
@@ -674,6 +709,11 @@ other_events v n table =
     let a = one_arg v n (want.Leaf (leaf.Number 0 MOST_DRAINED)) ds h in
     let k = number_fine v n 0 MOST_DRAINED a.a a.fine in
     rw (a.items) (happens.Drain k.0, drains a.a k.0 k.1)) &
+    (λ ds h.
+    let a = two_args v n a_deferred (want.Call call_of.Outcome) ds h in
+    let t = text_of a.a (fits_fine a.one) in
+    let x = outcome_fine v n table a.b a.two in
+    rw (a.items, t.1) (happens.Expect t.0 x.0, expects t.0 a.b x.0 x.1)) &
     tt
 
 event_by : (v n : ℕ) (table : List Class) (word : List ℕ) (wants : List Want) (ds : Items)

@@ -196,7 +196,7 @@ failure_fine : (v n : ℕ) (table : List Class) → AreRead v n table → AreRea
 failure_fine v n table read (object ms) h = failure_by v n table read ms (is_first_error (object ms)) refl h
 failure_fine v n table read d h = let fit : fits v (want.Keyed keyed.Failure) d ≡ true = fits_fine h in cc
 
-failure_of : (v n : ℕ) (table : List Class) → AreRead v n table
+pub failure_of : (v n : ℕ) (table : List Class) → AreRead v n table
 failure_of v zero table = no_failure v table
 failure_of v (suc n) table = failure_fine v n table (failure_of v n table)
 

@@ -3,14 +3,17 @@ use dv_forms::limits::most_nodes;
 use dv_forms::versions::{BODIES_SINCE, COMMENTS_SINCE, FAILURES_SINCE, MARKS_SINCE};
 use dv_forms::want::{CallKind, Item, Keyed, Leaf, Object, PairKind, Want};
 use dv_forms::words::{
-    ACTION_FORMS, END_FORMS, EVENT_FORMS, Form, LEAVING_FORMS, STATEMENT_FORMS, WORK_FORMS,
-    narrower,
+    ACTION_FORMS, END_FORMS, EVENT_FORMS, Form, LEAVING_FORMS, OUTCOME_FORMS, STATEMENT_FORMS,
+    WORK_FORMS, narrower,
 };
 use serde_json::Value as Json;
 use std::alloc::AllocError;
 
 /// The first version whose inline bodies have the statements finally, raise and caught.
 const FINALLY_SINCE: u32 = 3;
+
+/// The first version that has the event expect.
+const EXPECT_SINCE: u32 = 3;
 
 /// How the forms of a word are shown: most have one, and some two.
 #[derive(Clone, Copy, Drop)]
@@ -155,6 +158,8 @@ fn call_text(version: u32, call: CallKind) -> &'static str {
         CallKind::Leaving => leaving_text(version),
         CallKind::Work =>
             "a work: an array of one of the words value, raise and sum, and its arguments",
+        CallKind::Outcome =>
+            "what is expected: [\"unfired\"], [\"waiting\"], [\"ok\",VALUE] or [\"fail\",FAILURE]",
     }
 }
 
@@ -182,14 +187,23 @@ fn statement_word_text(version: u32) -> &'static str {
     }
 }
 
+fn event_word_text(version: u32) -> &'static str {
+    if version < EXPECT_SINCE {
+        "the word of an action, advance or drain"
+    } else {
+        "the word of an action, advance, drain or expect"
+    }
+}
+
 fn word_text(version: u32, call: CallKind) -> &'static str {
     match call {
-        CallKind::Event => "the word of an action, advance or drain",
+        CallKind::Event => event_word_text(version),
         CallKind::Action => "the word of an action",
         CallKind::Statement => statement_word_text(version),
         CallKind::End => end_word_text(version),
         CallKind::Leaving => leaving_word_text(version),
         CallKind::Work => "the word of a work: value, raise or sum",
+        CallKind::Outcome => "the word of what is expected: unfired, waiting, ok or fail",
     }
 }
 
@@ -375,6 +389,7 @@ fn own_shown(call: CallKind, word: &str) -> Option<Shown> {
         CallKind::End => shown_in(&END_FORMS, word),
         CallKind::Leaving => shown_in(&LEAVING_FORMS, word),
         CallKind::Work => shown_in(&WORK_FORMS, word),
+        CallKind::Outcome => shown_in(&OUTCOME_FORMS, word),
     }
 }
 

@@ -83,7 +83,8 @@ body_named name bodies = find (λ body. bytes_eq body.name name) bodies
 abbrev pub Records : Type 0
 Records = List (Record Pair Canceller)
 
--- what a run has made so far and its journal; once an entry didn't fit it has stopped
+-- what a run has made so far and its journal; once an entry didn't fit, or a Deferred wasn't as the script expects, it has
+-- stopped
 pub record World : Type 0 where
   pub classes : List Class
   pub declared : List NamedBody

@@ -43,14 +43,15 @@ use std::mem;
 mod clock;
 pub mod cooperating;
 mod declaring;
+pub mod expecting;
 pub mod inlining;
 pub mod jobs;
 pub mod looping;
 
 /// The world of a run: its Deferreds, locks, queues, lists, delayed calls, loops and tasks with
 /// their names, what inline bodies wait for, the works of its jobs, the classes of failures and the
-/// journal. Once an entry doesn't fit into the journal the run has stopped: from then on nothing
-/// changes.
+/// journal. Once an entry doesn't fit into the journal, or a Deferred isn't as the script expects,
+/// the run has stopped: from then on nothing changes.
 ///
 /// Where a call answers AllocError, nothing is promised of what the world holds then: its clauses
 /// speak of the other answers only. An engine that is out of memory asks no more of its world.
@@ -82,7 +83,8 @@ pub struct World<'s> {
 #[derive(Drop)]
 pub struct Parts<'s> {
     pub journal: Journal,
-    /// Whether an entry didn't fit into the journal, so that the run stopped there.
+    /// Whether the run stopped: at an entry that didn't fit into the journal, or at a Deferred that
+    /// wasn't as the script expects.
     pub stopped: bool,
     /// The Deferreds, in order of making.
     pub records: Vec<Record<Pair<'s>, Canceller<'s>>>,
@@ -207,7 +209,8 @@ impl<'s> World<'s> {
         self.classes
     }
 
-    /// Whether an entry didn't fit into the journal, so that nothing changes any more.
+    /// Whether an entry didn't fit into the journal, or a Deferred wasn't as the script expects, so
+    /// that nothing changes any more.
     pub fn is_stopped(&self) -> bool
         ensures { result ≡ self.now.stopped }
     {

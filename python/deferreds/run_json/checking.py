@@ -12,6 +12,9 @@ from ..view.facts import NotFacts, read_facts
 
 from .agreeing import Told, agreement
 
+#: the status of a run that ended since a Deferred wasn't as the script expects
+_UNMET = 8
+
 #: the keys of each kind of line, by docs/JSON.md
 KEYS: Dict[str, Sequence[str]] = {
     "start": ("type", "version"),
@@ -43,7 +46,7 @@ KEYS: Dict[str, Sequence[str]] = {
         "value",
         "waits_for",
     ),
-    "end": ("batches", "jobs", "limit", "stopped", "time", "type", "weight"),
+    "end": ("batches", "jobs", "limit", "stopped", "time", "type", "unmet", "weight"),
 }
 
 #: the keys of what is left, beside `kind` and `type`
@@ -181,12 +184,14 @@ def check_run(script: str, printed: Ran, told: Ran) -> List[Told]:
     _equal("the status", told.status, printed.status)
     _equal("standard error", told.errors, printed.errors)
     lines = read_lines(told.output)
-    if printed.status > 1:
+    if printed.status not in (0, 1, _UNMET):
         _equal("what is printed of a refused script", lines, [])
         return lines
     check_form(lines)
     _equal("the lines", joined(lines), printed.output)
     _equal("whether it stopped", lines[-1]["stopped"], printed.status == 1)
+    entries = len(_of_type(lines, "entry"))
+    _equal("what isn't as expected", lines[-1]["unmet"], entries - 1 if printed.status == _UNMET else None)
     check_events(script, lines)
     return lines
 

@@ -15,7 +15,7 @@ from .posts import Batch, batches_of, has_posts
 from .profile import Entry
 from .programs import Answer, Program
 from .rows import filled
-from .running import Run, run
+from .running import AT_LIMIT, OVER, UNMET, Run, run
 from .script import Refused, read
 
 
@@ -67,7 +67,11 @@ def ending(answer: Answer) -> str:
     refused = _REFUSED.fullmatch(answer.errors.strip())
     if answer.status == 2 and refused is not None:
         return f"(refused, {refused[1]})"
-    known = {0: "the end", 1: "stopped at the limit of the journal, status 1"}
+    known = {
+        OVER: "the end",
+        AT_LIMIT: "stopped at the limit of the journal, status 1",
+        UNMET: "a Deferred wasn't as the script expects, status 8",
+    }
     how = known.get(answer.status) or f"ended by {named_status(answer.status)}"
     return f"({_with_errors(how, answer.errors)})"
 
@@ -186,7 +190,7 @@ class Comparison:
 
 def _batches(script: str, answer: Answer) -> Sequence[Optional[List[Batch]]]:
     """In which batches the posts may have been taken; none, of a script that has no posts."""
-    if answer.status > 1 or '"callers"' not in script or not has_posts(json.loads(script)):
+    if answer.status not in (OVER, AT_LIMIT, UNMET) or '"callers"' not in script or not has_posts(json.loads(script)):
         return [None]
     return batches_of(script, answer.output)
 

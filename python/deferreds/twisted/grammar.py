@@ -113,6 +113,8 @@ class Kind(enum.Enum):
     ACTION = "an action"
     END = "how a body ends"
     WORK = "a work"
+    OUTCOME = "what is expected of a Deferred"
+    FAILURE = "a failure"
 
 
 NUMBERS: Dict[Kind, range] = {
@@ -146,8 +148,9 @@ _PLAIN: Dict[str, Kind] = {
     "value": Kind.VALUE,
     "boolean": Kind.FLAG,
     "bound": Kind.BOUND,
-    "object": Kind.BODY,
 }
+#: the kinds of objects that an argument may be
+_OBJECTS: Dict[str, Kind] = {"body": Kind.BODY, "failure": Kind.FAILURE}
 _ARRAYS: Dict[Kind, Kind] = {
     Kind.DEFERRED: Kind.DEFERREDS,
     Kind.CLASS: Kind.CLASSES,
@@ -159,6 +162,7 @@ _WORDS: Dict[str, Kind] = {
     "leaving": Kind.END,
     "statement": Kind.STATEMENT,
     "work": Kind.WORK,
+    "outcome": Kind.OUTCOME,
 }
 
 
@@ -178,6 +182,8 @@ def kind_of(form: Form) -> Kind:
         return Kind[f"{'NEW_' * (kind == 'new')}{of.upper()}"]
     if kind == "words":
         return _WORDS[of]
+    if kind == "object":
+        return _OBJECTS[of]
     if kind == "array" and of["type"] == "number":
         return Kind.PLACES
     if kind == "array":
@@ -214,10 +220,14 @@ STATEMENTS = _table("statement")
 #: the first version that has a statement
 STATEMENTS_SINCE = _since("statement")
 WORKS = _table("work")
-#: the first version that has some form of an action or an end
+#: the event by which a script expects something, the first version that has it, and what may be expected
+EXPECTING: Dict[str, List[Arguments]] = {"expect": [_kinds(row) for row in LANGUAGE.at("event") if row.word == "expect"]}
+EXPECTING_SINCE = _since("event")
+OUTCOMES = _table("outcome")
+#: the first version that has some form of an action, of an end or of this event
 SINCE: Dict[str, int] = {
-    word: min(since for (other, _), since in _since("action", "end").items() if other == word)
-    for word in (*ACTIONS, *ENDS)
+    word: min(since for (other, _), since in _since("action", "end", "event").items() if other == word)
+    for word in (*ACTIONS, *ENDS, *EXPECTING)
 }
 
 #: the levels that a port can begin with, in order; each has the actions of those before it

@@ -107,6 +107,8 @@ class Scripts:
             root["callers"] = posts
         events = self._beginning()
         events += [self._event() for _ in range(self._random.randint(3, 16))]
+        if self._is_third and self._one_in(2):
+            events += [self._expect() for _ in range(3)]
         root["events"] = events
         return json.dumps(root, separators=(",", ":"))
 
@@ -161,6 +163,10 @@ class Scripts:
             return ["drain", self._random.randint(0, 4)]
         return self._action(0)
 
+    def _expect(self) -> List[Any]:
+        """An event that expects something: what a Deferred has in few runs, if it is a value."""
+        return ["expect", self._name("DEFERRED", 0), self._end(grammar.OUTCOMES, 0)]
+
     def _action(self, depth: int) -> List[Any]:
         if depth >= _DEEPEST:
             word = self._random.choice(self._shallow)
@@ -212,6 +218,8 @@ class Scripts:
             Kind.ACTION: self._action,
             Kind.END: lambda depth: self._end(grammar.INLINE_ENDS, depth),
             Kind.WORK: lambda depth: self._end(grammar.WORKS, depth),
+            Kind.OUTCOME: lambda depth: self._end(grammar.OUTCOMES, depth),
+            Kind.FAILURE: lambda depth: self._failure(),
         }
         for kind in (*grammar.MADE, *grammar.FOUND):
             makers[kind] = self._naming(kind)

@@ -48,7 +48,7 @@ def row(name: str, script: str) -> Expected:
     ran = run(script.encode())
     if ran.quirks:
         raise Quirky(f"{name}: Twisted does here what docs/TWISTED.md says of {ran.quirks[0][1].value}")
-    return Expected(ROWS.name, name, script, int(ran.stopped), "", ran.output)
+    return Expected(ROWS.name, name, script, ran.status, "", ran.output)
 
 
 def file_of_rows() -> str:

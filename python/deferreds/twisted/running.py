@@ -7,7 +7,7 @@ import sys
 import threading
 import warnings
 from bisect import bisect_left
-from typing import Any, Callable, Dict, Generator, Iterator, List, Optional, Sequence, Tuple
+from typing import Any, Callable, Dict, Generator, Iterator, List, NoReturn, Optional, Sequence, Tuple, Union
 
 from twisted.internet import defer, task, threads
 from twisted.internet.defer import Deferred
@@ -34,14 +34,27 @@ RECURSION = 40_000
 STACK = 512 * 1024 * 1024
 
 
-class Run:
-    """What a run printed, and where Twisted did in it what an entry of the profile names."""
+class Unmet(Stopped):
+    """A Deferred isn't as the script expects: nothing happens any more."""
 
-    def __init__(self, lines: List[str], outcomes: List[str], stopped: bool) -> None:
+
+#: the statuses of a run: all events were performed, it stopped at its limit, or a Deferred wasn't as the script expects
+OVER, AT_LIMIT, UNMET = 0, 1, 8
+
+
+class Run:
+    """What a run printed, its status, and where Twisted did in it what an entry of the profile names."""
+
+    def __init__(self, lines: List[str], outcomes: List[str], status: int) -> None:
         self.journal = lines
         self.outcomes = outcomes
-        self.stopped = stopped
+        self.status = status
         self.quirks: List[Tuple[int, Entry]] = []
+
+    @property
+    def stopped(self) -> bool:
+        """Whether it stopped at the limit of its journal."""
+        return self.status == AT_LIMIT
 
     @property
     def output(self) -> str:
@@ -144,6 +157,23 @@ class OwnThread:
         f(*args)
 
 
+#: what has become of a Deferred: `unfired`, `waiting` and the one that it waits for, or what it has
+State = Union[Outcome, Sequence[str]]
+
+
+def _state_of(deferred: Deferred[Any], teller: Teller) -> State:
+    """What has become of a Deferred, read off Twisted's own object."""
+    if not deferred.called:
+        return ("unfired",)
+    result: object = getattr(deferred, "result")
+    # (while it waits, it has the other one; `_chainedTo` goes on naming that of a paused one which was handed its result)
+    if not isinstance(result, Deferred):
+        return teller.texts.outcome(result)
+    record = teller.record(result)
+    # a cancelled inline body is fired with a Deferred of Twisted's own, which no script knows
+    return ("unfired",) if record.hidden_of is not None else ("waiting", f"#{record.number}")
+
+
 class Steps:
     """The iterator of a task: a body a step."""
 
@@ -212,19 +242,21 @@ class Player:
 
     def run(self) -> Run:
         """Performs all events, and tells what came of them."""
+        status = OVER
         with self.teller.watching():
             try:
                 for event in self.script.events:
                     self._event(event)
                 self._posts(None)
+            except Unmet:
+                status = UNMET
             except Stopped:
-                pass
+                status = AT_LIMIT
         teller = self.teller
-        stopped = teller.stopped
         teller.end()
         lines = list(lines_of(teller.parts))
         journal = [rendered(line, teller.records) for _, line in lines]
-        run = Run(journal, teller.outcomes or [], stopped)
+        run = Run(journal, teller.outcomes or [], status)
         places = [place for place, _ in lines]
         run.quirks = [(bisect_left(places, place), entry) for place, entry in teller.quirks]
         return run
@@ -244,8 +276,38 @@ class Player:
         if event[0] == "drain":
             self.teller.tell("drain")
             self._posts(event[1])
+        elif event[0] == "expect":
+            self._expect(event[1], event[2])
         else:
             self._telling(lambda: self._action(event, None))
+
+    def _expect(self, name: str, expected: List[Any]) -> None:
+        """Tells what has become of a Deferred, and ends the run where that isn't what is expected."""
+        deferred = self.deferreds.get(name)
+        if deferred is None:
+            self._end_unmet("unbound ", Text(compact(name), weight_of(name)))
+        state = _state_of(deferred, self.teller)
+        shown: Part = state if isinstance(state, Outcome) else " ".join(state)
+        record = self.teller.record(deferred)
+        if not self._is_met(expected, state):
+            self._end_unmet("unmet ", record, " ", shown)
+        self.teller.tell("expect ", record, " ", shown)
+
+    def _end_unmet(self, *parts: Part) -> NoReturn:
+        """Tells what isn't as the script expects, and ends the run."""
+        self.teller.tell(*parts)
+        self.teller.end()
+        raise Unmet
+
+    def _is_met(self, expected: List[Any], state: "State") -> bool:
+        """Whether a Deferred of this state is as it is expected to be."""
+        if not isinstance(state, Outcome):
+            return str(expected[0]) == state[0]
+        if expected[0] not in ("ok", "fail"):
+            return False
+        value = self._value(expected[1]) if expected[0] == "ok" else self._failure(expected[1])
+        # (by what both show: what a waiter has is the lock itself, which is shown as the text of its name)
+        return state.text == self.teller.texts.outcome(value).text
 
     def _telling(self, happen: Callable[[], object]) -> None:
         """What fails here is logged, and the run goes on."""

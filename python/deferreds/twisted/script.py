@@ -237,6 +237,8 @@ class _Shape:
                 self._refuse(event)
             self._number(event[1], grammar.ADVANCES if word == "advance" else grammar.DRAINS)
             self.found.advanced += event[1] if word == "advance" else 0
+        elif word == "expect":
+            self._said(event, grammar.EXPECTING, grammar.EXPECTING_SINCE)
         else:
             self._said(event, grammar.ACTIONS, grammar.ACTIONS_SINCE)
 
@@ -302,6 +304,10 @@ class _Shape:
             self._said(value, grammar.INLINE_ENDS, grammar.ENDS_SINCE)
         elif kind is Kind.WORK:
             self._said(value, grammar.WORKS)
+        elif kind is Kind.OUTCOME:
+            self._said(value, grammar.OUTCOMES)
+        elif kind is Kind.FAILURE:
+            self._failure(value)
         else:
             raise AssertionError(kind)
 

@@ -52,6 +52,8 @@ class Ending(NamedTuple):
     """How the run ended."""
 
     stopped: bool
+    #: the entry that logs what isn't as the script expects, where the run ended so
+    unmet: Optional[int]
     weight: int
     limit: int
     #: the batches of its posts, where they are told
@@ -113,7 +115,14 @@ def _take(facts: Facts, told: Json) -> None:
             facts.left.append(read(told))
     elif kind == "end":
         batches = read_batches(told.get("batches", []))
-        facts.ending = Ending(bool(told["stopped"]), _number(told["weight"]), _number(told["limit"]), batches)
+        unmet = told.get("unmet")
+        facts.ending = Ending(
+            bool(told["stopped"]),
+            None if unmet is None else _number(unmet),
+            _number(told["weight"]),
+            _number(told["limit"]),
+            batches,
+        )
 
 
 def _number(value: object) -> int:

@@ -196,7 +196,7 @@ class Fold:
             "job": self._job,
             "deliver": self._deliver,
         }
-        for word in ("note", "step", "drain", "post", "body", "units"):
+        for word in ("note", "step", "drain", "post", "body", "units", "expect", "unmet", "unbound"):
             handlers[word] = _nothing
         return handlers
 

@@ -23,7 +23,7 @@ if TYPE_CHECKING:
     from .run import Run
 
 USAGE, NO_INPUT, NO_OUTPUT = 64, 66, 73
-_STOPPED, _REFUSED, _BATCHES_REFUSED = 1, 2, 5
+_STOPPED, _REFUSED, _BATCHES_REFUSED, _UNMET = 1, 2, 5, 8
 
 _SCRIPT, _FACTS, _JOURNAL = (
     "it looks like a script, which is given without --journal and --json",
@@ -173,7 +173,7 @@ def _survey(data: bytes, name: str, words: Sequence[str]) -> Orders:
         raise Failed(status)
     if status == USAGE:
         raise Failed(NOT_RUN, f"the program that is found doesn't know {' '.join(['--orders', *words])}")
-    if status not in (ONE_OUTCOME, SEVERAL_OUTCOMES):
+    if status not in (ONE_OUTCOME, SEVERAL_OUTCOMES, _UNMET):
         raise Failed(status, _why_not(status, data, name))
     try:
         return read_orders(_text(told, name))
@@ -264,7 +264,7 @@ def run_script(data: bytes, name: str, batches: Optional[str] = None) -> Told:
         status, told = _deferreds(data)
     if status == _BATCHES_REFUSED:
         raise Failed(status)
-    if status not in (0, _STOPPED):
+    if status not in (0, _STOPPED, _UNMET):
         raise Failed(status, _why_not(status, data, name))
     source = Source(_title(name), not is_exact, _script(data), stopped=None if is_exact else status == _STOPPED)
     return Told(source, told, name)

@@ -73,6 +73,7 @@ _SHAPES: Dict[str, Tuple[str, str]] = {
     "value": (".*", "tail"),
     "failure": (".*", "tail"),
     "text": (".*", "tail"),
+    "state": (r"unfired|waiting #\d+|(?:ok|fail) .*", "tail"),
 }
 
 

@@ -62,6 +62,8 @@ class Orders(NamedTuple):
     outcomes: Tuple[Came, ...]
     #: the orders in which the run stopped at the limit of its journal, where there are any
     stops: Optional[Came] = None
+    #: those in which a Deferred wasn't as the script expects
+    unmet: Optional[Came] = None
 
     def unmade(self, one: Endings) -> int:
         """In how many orders a Deferred isn't made."""
@@ -73,14 +75,14 @@ class Orders(NamedTuple):
 
     @property
     def firsts(self) -> List[Batches]:
-        """The orders in which an outcome came first, a Deferred first ended in a way, or a run first stopped, each once."""
+        """The orders in which an outcome came first, a Deferred first ended in a way, or a run first stopped or was first unmet, each once."""
         return list(dict.fromkeys([*(one.first for one in self.outcomes), *self._chosen]))
 
     @property
     def _chosen(self) -> List[Batches]:
-        """Those of the ways, and of the stop."""
+        """Those of the ways, of the stop, and of what wasn't as expected."""
         ways = [way.first for one in self.endings for way in one.ways]
-        return [*ways, *([self.stops.first] if self.stops else [])]
+        return [*ways, *(came.first for came in (self.stops, self.unmet) if came is not None)]
 
     def charted(self, most: int) -> List[Batches]:
         """Those that are shown where there is room for so many: before any other those of the ways, and of the stop."""
@@ -115,13 +117,22 @@ def read_orders(text: str) -> Orders:
 def _orders(first: Json, counted: List[Json], last: Json) -> Orders:
     sample = None if first["sample"] is None else _number(first["sample"])
     outcomes = tuple(_came(told) for told in counted if told["type"] == "outcome")
-    stops = next((_came(told) for told in counted if told["type"] == "stopped"), None)
-    orders = Orders(_number(first["orders"]), _number(last["orders"]), sample is not None, tuple(_endings(counted)), outcomes, stops)
+    stops, unmet = _came_at_all(counted, "stopped"), _came_at_all(counted, "unmet")
+    orders = Orders(
+        _number(first["orders"]), _number(last["orders"]), sample is not None, tuple(_endings(counted)), outcomes, stops, unmet
+    )
     if (first["type"], last["type"]) != ("orders", "end") or orders.ran != (orders.total if sample is None else sample):
         raise ValueError("the number of orders")
     if (last["outcomes"], last["stopped"]) != (len(outcomes), stops.orders if stops else 0):
         raise ValueError("the number of outcomes")
+    if last.get("unmet", 0) != (unmet.orders if unmet else 0):
+        raise ValueError("in how many orders a Deferred wasn't as expected")
     return orders
+
+
+def _came_at_all(counted: List[Json], kind: str) -> Optional[Came]:
+    """In which orders something came of which there is one line, or none."""
+    return next((_came(told) for told in counted if told["type"] == kind), None)
 
 
 def _endings(counted: List[Json]) -> Iterator[Endings]:

@@ -111,6 +111,9 @@ class OrdersPage:
         if orders.stops is not None:
             stopped = several(orders.stops.orders, orders.noun, f"{orders.noun}s")
             yield Html(f'<span class="verdict bad">{stopped} stopped at the limit of the journal</span>')
+        if orders.unmet is not None:
+            unmet = several(orders.unmet.orders, orders.noun, f"{orders.noun}s")
+            yield Html(f'<span class="verdict bad">{unmet} unmet</span>')
         yield Html(f"<span class=facts>{escaped(orders.counts)}</span></p>")
         if orders.total == 1:
             yield Html(f"<p>{self._why_one()} So every run prints the same.</p>")
@@ -180,6 +183,8 @@ class OrdersPage:
         named = [(f"outcome {number}", came) for number, came in enumerate(outcomes[:MOST_OUTCOMES], 1)]
         if self._orders.stops is not None:
             named.append(("stopped at the limit of the journal", self._orders.stops))
+        if self._orders.unmet is not None:
+            named.append(("unmet", self._orders.unmet))
         rows = joined(self._opening("", Html(""), escaped(what), came) for what, came in named)
         yield Html(f"<h2 id=outcomes>{several(len(outcomes), 'outcome', 'outcomes')}{self._in_sample}</h2>")
         heads = "<th>How all end</th><th>Orders</th><th>Share</th><th>First order</th>"
@@ -210,11 +215,13 @@ class OrdersPage:
         )
 
     def _firsts(self, shown: Shown) -> Html:
-        """Of what this is the first order: the outcome, the ways of Deferreds, and the stop."""
+        """Of what this is the first order: the outcome, the ways of Deferreds, the stop, and what isn't as expected."""
         first = f"The first {self._orders.noun}"
         told = [f"{first} of outcome {number}." for number, came in enumerate(self._orders.outcomes, 1) if came.first == shown.batches]
         if self._orders.stops is not None and self._orders.stops.first == shown.batches:
             told.append(f"{first} that stopped at the limit of the journal.")
+        if self._orders.unmet is not None and self._orders.unmet.first == shown.batches:
+            told.append(f"{first} in which a Deferred isn't as the script expects.")
         return Html(" ".join([*told, *self._first_ways(first, shown)]))
 
     def _first_ways(self, first: str, shown: Shown) -> Iterator[Html]:

@@ -25,6 +25,7 @@ class Finish(enum.Enum):
 
     WHOLE = "it ended"
     STOPPED = "it stopped at the limit of its journal"
+    UNMET = "a Deferred wasn't as the script expects"
     CUT = "the text was cut off"
 
 

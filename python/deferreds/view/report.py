@@ -46,6 +46,7 @@ class Kind(enum.Enum):
     """What a row of the report tells of, the worst first."""
 
     STOPPED = "stopped"
+    UNMET = "unmet"
     CUT = "cut off"
     UNHANDLED = "unhandled"
     FAILURE = "failure"
@@ -170,6 +171,8 @@ class Report:
             details += self._held(Root(At.DEFERRED, number), [number])
         last = len(self._fold.rows) - 1
         kind, said = Kind.STOPPED, "the run stopped at the limit of its journal"
+        if finish is Finish.UNMET:
+            kind, said = Kind.UNMET, "a Deferred isn't as the script expects, and the run ended there"
         if finish is Finish.CUT:
             kind, said = Kind.CUT, f"the text ends before {self._missing()}: how the run went on isn't known"
         return Finding(Severity.BAD, kind, (said,), tuple(details), last if last >= 0 else None)

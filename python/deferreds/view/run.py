@@ -106,6 +106,17 @@ class Run:
         return counts_of(len(fold.rows), len(fold.records), len(self.script.events), fold.world.now, self.tick, self.weight or "")
 
 
+#: the words of the lines after which nothing comes, since a Deferred isn't as the script expects
+_UNMET = frozenset({"unmet", "unbound"})
+
+
+def _finish(stopped: bool, unmet: bool) -> Finish:
+    """How a run ended of which the whole text is there."""
+    if unmet:
+        return Finish.UNMET
+    return Finish.STOPPED if stopped else Finish.WHOLE
+
+
 def run_of_facts(facts: Facts, script: Script, title: str) -> Run:
     """A run as `./deferreds --json` tells it: exact."""
     fold = Fold(facts.entries, facts.ends, facts.places)
@@ -113,7 +124,7 @@ def run_of_facts(facts: Facts, script: Script, title: str) -> Run:
     if facts.ending is None:
         run.is_exact, run.knows_stop, run.finish = False, False, Finish.CUT
     else:
-        run.finish = Finish.STOPPED if facts.ending.stopped else Finish.WHOLE
+        run.finish = _finish(facts.ending.stopped, facts.ending.unmet is not None)
         run.weight = f"{facts.ending.weight} of {facts.ending.limit}"
         run.batches = facts.ending.batches
     return run
@@ -134,11 +145,12 @@ def run_of_journal(
     fold = Fold(entries, ends, places_of(entries, begins) if begins is not None else None)
     run = Run(fold, left_of(fold), script if script is not None else Script(), title)
     run.is_exact = False
-    if stopped is not None:
-        run.finish = Finish.STOPPED if stopped else Finish.WHOLE
+    unmet = bool(entries) and entries[-1].word in _UNMET
+    if stopped is not None or unmet:
+        run.finish = _finish(bool(stopped), unmet)
     elif is_cut:
         run.finish = Finish.CUT
-    run.knows_stop = stopped is not None or run.finish is Finish.STOPPED
+    run.knows_stop = stopped is not None or run.finish in (Finish.STOPPED, Finish.UNMET)
     run.read = len(lines) + len(outcomes)
     run.unknown = sum(not entry.word for entry in entries) + len(outcomes) - len(ends)
     if len(ends) < len(outcomes):

@@ -55,8 +55,8 @@ pub fn collect_all<R: Wait>(rt: &R, works: &[Option<Work>], parts: &mut Parts)
 }
 
 /// What was done, in the order of numbers, where all was taken: then each job has its own place,
-/// and no other place has an answer, so that none was put aside. AllocError where a gate gave back
-/// a job.
+/// and no other place has an answer, so that none was ignored. AllocError where a gate returned a
+/// job.
 pub fn gather(alloc: Global, parts: Parts, works: &[Option<Work>]) -> Result<Ran, AllocError>
     requires placed { HasPlaced works.now parts }
     requires submitted { HasSubmitted works.now parts }

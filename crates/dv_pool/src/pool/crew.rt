@@ -15,7 +15,7 @@ use std::sync::atomic::Ordering;
 use std::sync::{Arc, Wait};
 use std::thread::{Scope, Threads};
 
-/// The workers of a pool. They are told to leave where it is dropped.
+/// The workers of a pool. They leave when it is dropped.
 pub struct Crew {
     pub shared: Arc<Shared>,
     pub handles: Vec<Handle>,

@@ -44,8 +44,7 @@ fn may_be_of(work: &Option<Work>, answer: &Answer) -> bool
     }
 }
 
-/// Puts an answer to its number. It is put aside where there is one already, and where it is of
-/// another work than the job of its number.
+/// Puts an answer to its number. A second answer is ignored, and so is a result for the wrong work.
 fn place(works: &[Option<Work>], places: &mut Vec<Option<Answer>>, answer: Answer)
     requires { length works.now ≡ length places.old.items }
     ensures takes { TakesIn works.now places.old.items answer places.new.items }
@@ -78,8 +77,8 @@ fn may_stay(place: &Option<Answer>, work: &Work) -> bool
     }
 }
 
-/// Makes the place of a number that of the job of this work: an answer that is there, of another
-/// work, is put aside.
+/// Makes the place of a number that of the job of this work. A result for the wrong work that is
+/// there is ignored.
 pub fn await_work(places: &mut Vec<Option<Answer>>, number: usize, work: &Work)
     requires { number < length places.old.items }
     ensures awaits { Awaits places.old.items number work.now places.new.items }

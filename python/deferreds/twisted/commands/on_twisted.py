@@ -29,7 +29,7 @@ def answer(data: bytes, batches: Optional[Batches] = None) -> Answer:
         ran = run(data, batches)
     except Refused as refused:
         return 2, b"", f"{refused}\n".encode()
-    return int(ran.stopped), ran.output.encode(), b""
+    return ran.status, ran.output.encode(), b""
 
 
 def serve(reader: BinaryIO, writer: BinaryIO) -> int:

@@ -1,7 +1,7 @@
 use Rattle.std.proofs.Common.{refl}
 use Rattle.dv_definition.proofs.CasesHold.{tokens_are_waited_for, full_queues_refuse, fired_lists_stay, turns_follow}
 use Rattle.dv_definition.proofs.CasesHold.{ended_tasks_stay, name_errors_are_thrown, errbacks_are_for_failures}
-use Rattle.dv_definition.proofs.CasesHold.{many_jobs_are_refused, failures_of_calls_are_told}
+use Rattle.dv_definition.proofs.CasesHold.{many_jobs_are_refused, failures_of_calls_are_told, unmet_runs_end}
 use Rattle.dv_definition.proofs.laws.rules_decide_their_cases.Goals as goal
 
 pub returns-clause-deferreds : goal.returns-clause-deferreds
@@ -51,3 +51,6 @@ returns-clause-rest c = λ itself action rest end input w. refl
 
 pub returns-clause-calls : goal.returns-clause-calls
 returns-clause-calls c = failures_of_calls_are_told
+
+pub returns-clause-expecting : goal.returns-clause-expecting
+returns-clause-expecting c = unmet_runs_end

@@ -12,7 +12,7 @@ use Rattle.dv_orders.specs.declared.ranking.Place.{Place}
 use Rattle.dv_orders.proofs.RankingLemmas.{added, drain_none, drain_some}
 use Rattle.dv_orders.proofs.ranking.cut_of.Goals as goal
 use Rattle.dv_orders.proofs.ranking.cut_of.Goals.{in-Drain+in_ok-taken-in-Drain+in-Some+in_ok-batch_of-in-Some+in_ok-push-in-Some}
-use Rattle.dv_orders.proofs.ranking.cut_of.Goals.{in-Action-1, in-Advance-1}
+use Rattle.dv_orders.proofs.ranking.cut_of.Goals.{in-Action-1, in-Advance-1, in-Expect-1}
 
 pub returns-in-None : goal.returns-in-None
 returns-in-None c =
@@ -106,6 +106,19 @@ loop-place-preserved c =
             same = same;
           }
       | in-Advance-1 w ↦
+          let passed : cuts (c.index-events-place.result ∷ later) rest ≡ cuts later rest =
+          grind (arith, common_steps) in
+          let done = passes passed in
+          let same : slice_get (cuts events c.args.sequence.now) c.args.number
+          ≡ option_map (λ (cut : List Batch). c.match-events-place.batches ++ cut)
+          (slice_get (cuts later c.match-events-place.rest.now) c.match-events-place.number) =
+          rw (w.batches-is, w.rest-is, w.number-is) done in
+          record {
+            fits = rw w.rest-is c.loop-place.invariant.fits;
+            small = rw w.number-is c.loop-place.invariant.small;
+            same = same;
+          }
+      | in-Expect-1 w ↦
           let passed : cuts (c.index-events-place.result ∷ later) rest ≡ cuts later rest =
           grind (arith, common_steps) in
           let done = passes passed in

@@ -53,12 +53,13 @@ returns-in-Ok-print_survey-clause-ok g c =
     let old = g.W.Sink.taken c.args.writer.now in
     let mid = g.W.Sink.taken c.print_number.new.writer in
     let new = g.W.Sink.taken c.print_survey.new.writer in
-    all_written c.args.format c.args.chosen c.in-Ok.orders c.outcomes_len.result old mid new c.args.script.now
+    all_written c.args.format c.args.chosen c.in-Ok.orders
+    (record { outcomes = c.outcomes_len.result; unmet = c.unmet.result }) old mid new c.args.script.now
     c.in-Ok-survey_of.survey
     c.in-Ok.ensures.number c.in-Ok.ensures.few c.in-Ok-survey_of.ensures c.in_default.ensures.ok
     (subst
     (λ m. Appends mid new (survey_text c.in-Ok-survey_of.survey m)) c.ran.ensures c.in-Ok-print_survey.ensures.ok)
-    c.outcomes_len.ensures
+    c.outcomes_len.ensures c.unmet.ensures
 
 pub returns-clause-err : goal.returns-clause-err
 returns-clause-err g c =
