@@ -58,9 +58,9 @@ class RealReactor(unittest.TestCase):
     """A program that has its reactor run."""
 
     def recorded(self, name: str, by_chance: Optional[str] = None) -> Recording:
-        """Its recording, which the program reproduces. Refused for this reason, by chance, it is recorded again, at most twice."""
+        """Its recording, which the program reproduces. Refused for this reason, by chance, it is recorded again, at most four times."""
         recording = Recording(name)
-        for _ in range(2):
+        for _ in range(4):
             if by_chance is not None and by_chance in recording.said:
                 recording = Recording(name)
         self.assertEqual(recording.status, 0, recording.said)
@@ -127,6 +127,13 @@ class RealReactor(unittest.TestCase):
         self.assertEqual([event[3] * recording.tick for event in recording.events if event[0] == "loop"], [0.25, 0.5])
         moves = [(event[0], event[2] * recording.tick) for event in recording.events if event[0] in ("resetCall", "delayCall")]
         self.assertEqual(moves, [("resetCall", 1), ("delayCall", Fraction(6, 10))])
+        self.assertIn('note "True"', recording.lines)
+
+    def test_loops_that_a_slow_body_starts(self) -> None:
+        recording = self.recorded("loops_of_a_slow_body", "turns or ticks ran in another order than they are due in")
+        # the slow loop's turn was scheduled before the other's that is due with it
+        turns = [line for line in recording.lines if line.startswith("turn ")]
+        self.assertEqual([line.endswith("_17") for line in turns[:4]], [False, False, True, False])
         self.assertIn('note "True"', recording.lines)
 
     def test_servers(self) -> None:

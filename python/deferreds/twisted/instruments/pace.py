@@ -6,7 +6,7 @@ The times of lines and actions are set when the run is said (`settle`). Until th
 from __future__ import annotations
 
 from fractions import Fraction
-from typing import Any, Callable, Dict, List, NamedTuple, Optional
+from typing import Any, Callable, Dict, List, NamedTuple, Optional, Tuple
 
 from twisted.internet import base
 
@@ -14,13 +14,19 @@ from ..telling import Action, Advance, Observer, Time
 from .settling import MILLISECOND, UNITS, Conflict, Entry, Loop, Step, settle
 
 #: how far apart loops may start in a body, and be told to start at one time
-_APART = 5 * MILLISECOND
+_APART = 50 * MILLISECOND
 #: how long before a due turn a loop is recorded to start
 _BEFORE = 50
 #: what a turn is put off by, in seconds, for each other one that is due at its time
 _BEHIND = 5e-7
-#: how far a turn may be moved, in seconds
-_MOST_MOVED = 0.01
+#: how far a turn may be put off, in seconds
+_MOST_MOVED = 0.1
+#: how long before a turn's time Twisted must have it be due, in seconds: what a clock's float leaves out is less
+_LEAST_BEFORE = 1e-6
+#: how much later than it is recorded to a loop may start, and be recorded to start then
+_MOST_LATE = 50 * MILLISECOND
+#: how long before the time at which it is recorded to start a loop that started late has started, at least
+_LEAST_EARLY = 10
 
 
 class Waiting(NamedTuple):
@@ -52,6 +58,8 @@ class Pace:
         self._moved: List[_Moved] = []
         #: how many more turns are due when one is
         self._turns: Dict[int, int] = {}
+        #: the turn for which a loop waits, and its call
+        self._calls: Dict[Loop, Tuple[Entry, Any]] = {}
         #: when the reactor has looked what is due, and whether it has run that since something came from elsewhere
         self._turn: Optional[int] = None
         self._fresh = False
@@ -144,21 +152,51 @@ class Pace:
             # its first turn has blocked: the beginning is recorded to be after that
             loop.missed, number = number - 1, 1
             self._base += loop.missed * loop.interval / UNITS
+        loop.earliest = looping.starttime + (number + loop.missed) * looping.interval
+        if number == 1 and loop in self._steps[-1].starts:
+            self._start_late(loop, looping.starttime + loop.missed * looping.interval)
         return self._make(Entry(len(self._waiting), loop=loop, turn=number))
+
+    def _start_late(self, loop: Loop, started: float) -> None:
+        """A loop that has started after the time at which it is recorded to, as on a busy machine, is recorded to start after that.
+
+        So are those which are recorded to start with it: the turns of all are due at times that can be given to their calls.
+        """
+        step = self._steps[-1]
+        late = int((started - self._base) * UNITS) + _LEAST_EARLY - loop.at
+        late = -(-late // MILLISECOND) * MILLISECOND
+        together = [other for other in step.starts if other.at == loop.at]
+        most = min(_MOST_LATE, *(other.interval // 4 for other in together))
+        calls = {other: self._calls[other] for other in together if other in self._calls}
+        waiting = self._turns.keys() - {_due_turn(entry, other) for other, (entry, _) in calls.items()}
+        if not 0 < late <= most or min(waiting, default=loop.at + late + 1) <= loop.at + late:
+            return
+        for entry, _ in calls.values():
+            self._forget_turn(entry)
+        if step is self._steps[0]:
+            self._base += late / UNITS
+        else:
+            for other in together:
+                other.at += late
+        for entry, call in calls.values():
+            self._align(entry, call)
 
     def align(self, waiting: Waiting, call: Any) -> None:
         """Has a turn be due as a whole number of intervals after its loop is recorded to start.
 
         Twisted asks the clock twice, so that turns which fall together would run in an order that nothing but chance gives.
         """
-        entry = waiting.entry
+        if waiting.entry.loop is not None:
+            self._align(waiting.entry, call)
+
+    def _align(self, entry: Entry, call: Any) -> None:
         loop = entry.loop
-        if loop is None:
-            return
+        assert loop is not None
+        self._calls[loop] = entry, call
         due = _due_turn(entry, loop)
         others = self._turns[due] = self._turns.get(due, -1) + 1
         time = self._base + due / UNITS + others * _BEHIND
-        if 0 < time - call.time < _MOST_MOVED:
+        if loop.earliest + _LEAST_BEFORE < time < call.time + _MOST_MOVED:
             call.time = time
 
     # what happens
@@ -198,6 +236,7 @@ class Pace:
 
     def _forget_turn(self, entry: Entry) -> None:
         if entry.loop is not None:
+            self._calls.pop(entry.loop, None)
             self._turns.pop(_due_turn(entry, entry.loop), None)
 
     def _begin(self, entry: Optional[Entry], real: int) -> Advance:

@@ -69,6 +69,8 @@ class Loop:
         self.place = place
         #: how many of its turns were missed before the beginning of the told time
         self.missed = 0
+        #: the reactor's time, in seconds, before which Twisted doesn't have the turn be due for which it waits
+        self.earliest = 0.0
         #: the time at which it is recorded to start
         self.start = at
 
