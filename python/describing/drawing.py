@@ -34,7 +34,8 @@ LEFT_OUT: Dict[str, Sequence[str]] = {"language": ("read", "FILE", "LANGUAGE")}
 
 def script() -> str:
     """The modules, as JavaScript."""
-    sources = [("language", FOLDER.parent / "language.py"), *((name, FOLDER / f"{name}.py") for name in MODULES)]
+    above = [(name, FOLDER.parent / f"{name}.py") for name in ("language", "repeats")]
+    sources = [*above, *((name, FOLDER / f"{name}.py") for name in MODULES)]
     read = [(name, path.read_text(encoding="utf-8"), LEFT_OUT.get(name, ())) for name, path in sources]
     language, *others = written(read)
     return "\n".join([language, _language(), *others, ""])

@@ -28,6 +28,7 @@ _SAMPLES: Dict[str, Json] = {
     "leaving": ["pass"],
     "work": ["sum", 1],
     "outcome": ["unfired"],
+    "event": ["drain", 1],
 }
 
 

@@ -7,6 +7,7 @@ ghost use Rattle.dv_forms.specs.Words.{may_stand, narrower, outcome_word, own_fo
 ghost use Rattle.dv_forms.specs.Words.{statement_word};
 ghost use Rattle.dv_forms.specs.Words.{wants_in, wants_of, work_word};
 
+use crate::limits::MOST_TIMES;
 use crate::versions::{FIRST_VERSION, TIMEOUTS_SINCE};
 use crate::want::{CallKind, Item, Keyed, Leaf, Object, Want};
 use dv_clock::limits::{MOST_DELAY, MOST_TICKS};
@@ -62,6 +63,7 @@ pub enum EventWord {
     Advance,
     Drain,
     Expect,
+    Repeat,
 }
 
 /// The word of a statement.
@@ -441,7 +443,7 @@ pub const ACTION_FORMS: [Form<ActionWord>; 41] = [
 ];
 
 /// The forms of the events that are no actions.
-pub const EVENT_FORMS: [Form<EventWord>; 3] = [
+pub const EVENT_FORMS: [Form<EventWord>; 4] = [
     (
         EventWord::Advance,
         "advance",
@@ -461,6 +463,16 @@ pub const EVENT_FORMS: [Form<EventWord>; 3] = [
         "expect",
         &[DEFERRED, Want::Call(CallKind::Outcome)],
         "[\"expect\",D,OUTCOME]",
+        3,
+    ),
+    (
+        EventWord::Repeat,
+        "repeat",
+        &[
+            Want::Leaf(Leaf::Number(0, MOST_TIMES)),
+            Want::Array(Item::Event),
+        ],
+        "[\"repeat\",N,[EVENT..]]",
         3,
     ),
 ];
@@ -824,6 +836,7 @@ impl EventWord {
             "advance" => Some(EventWord::Advance),
             "drain" => Some(EventWord::Drain),
             "expect" => Some(EventWord::Expect),
+            "repeat" => Some(EventWord::Repeat),
             _ => None,
         }
     }

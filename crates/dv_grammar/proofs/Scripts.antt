@@ -1,13 +1,12 @@
 -- What holds of events, posts and scripts: what is read is in the grammar, and what is in the grammar is read.
 use Rattle.std.proofs.Common.{◌≡◌, ℕ, suc, ◌≤◌, Bool, List, [], ◌∷◌, Option, Some, None, option_and_then, refl, ap}
-use Rattle.std.proofs.Common.{codes, arith}
+use Rattle.std.proofs.Common.{codes, arith, true}
 use Rattle.serde_json.specs.Data.{Data, string, array, object, Items, no_items, item, Members, depth, items_depth}
 use Rattle.serde_json.specs.Data.{members_depth}
 use Rattle.serde_json.specs.Find.{as_array, get_member}
 use Rattle.serde_json.specs.Read.{max_depth}
 use Rattle.dv_value.specs.declared.classes.Class.{Class}
 use Rattle.dv_script.specs.declared.body.Body.{Body}
-use Rattle.dv_script.specs.declared.action.Action.{Action}
 use Rattle.dv_script.specs.declared.event.Event.{Event}
 use Rattle.dv_script.specs.declared.script.Cooperator.{Cooperator}
 use Rattle.dv_script.specs.declared.script.NamedBody.{NamedBody}
@@ -21,60 +20,20 @@ use Rattle.dv_grammar.specs.declared.draft.Draft.{Draft}
 use Rattle.dv_forms.specs.Forms.{Each, IsList, Field, Key, IsNumber}
 use Rattle.dv_forms.specs.Limits.{most_limit}
 use Rattle.dv_forms.specs.Table.{table_of}
-use Rattle.dv_forms.specs.declared.words.EventWord.{EventWord}
-use Rattle.dv_forms.specs.Words.{event_word, event_words}
-use Rattle.dv_grammar.specs.Grammar.{cooperator_keys, keys_of, plain_cooperator, IsAction, IsBody, IsEvent, acts}
-use Rattle.dv_grammar.specs.Grammar.{advances, drains, expects, IsDeclaration, declares, IsPool, pools, IsCooperator, IsScript}
+use Rattle.dv_grammar.specs.Grammar.{AreEvents, cooperator_keys, keys_of, plain_cooperator, IsBody}
+use Rattle.dv_grammar.specs.Grammar.{IsDeclaration, declares, IsPool, pools, IsCooperator, IsScript}
 use Rattle.dv_grammar.specs.Grammar.{IsNamedBody, names_body}
 use Rattle.dv_forms.specs.Parts.{each, list_at, text_at, number_at, within, call_at, none, first, one, two, sole, pair}
 use Rattle.dv_forms.specs.Parts.{fields_at, field, declaration_at, table_for}
-use Rattle.dv_grammar.specs.Shape.{action_by, readers, body_at, action_at, event_by, event_at, event_of, other_event}
-use Rattle.dv_grammar.specs.Shape.{cooperator_at, expect_of, named_body_at, outcome_at, pool_at, caller_at, script_at}
+use Rattle.dv_grammar.specs.Shape.{body_at, cooperator_at, events_in, named_body_at, pool_at, caller_at, script_at}
+use Rattle.dv_grammar.specs.Shape.{script_by}
 use Rattle.dv_grammar.proofs.Steps.{some_injective, bind}
-use Rattle.dv_grammar.proofs.WordsLemmas.{◌&◌, EachWord, found_word}
-use Rattle.dv_script.specs.declared.event.Event.TheVariants as happens
-use Rattle.dv_grammar.proofs.Leaves.{call_is, one_read, two_read, text_is, array_is, number_is, sound_list, sound_field}
-use Rattle.dv_grammar.proofs.Leaves.{sound_outcome, complete_outcome}
+use Rattle.dv_grammar.proofs.Leaves.{two_read, text_is, array_is, number_is, sound_list, sound_field}
+use Rattle.dv_grammar.proofs.Repeats.{sound_events, complete_events}
 use Rattle.dv_grammar.proofs.Leaves.{sound_key, fields_is, complete_list, complete_field, complete_key, complete_number}
-use Rattle.dv_grammar.proofs.Actions.{sound_action, sound_readers, depth-get_member, complete_action, complete_body}
+use Rattle.dv_grammar.proofs.Actions.{sound_readers, depth-get_member, complete_body}
 
 -- ---- events, posts, scripts
-
--- what the word of this event reads as is in the grammar
-abbrev IsEventRead : List Class → EventWord → List ℕ → Type 0
-IsEventRead table word text =
-    (ds : Items) (x : Event) → event_of table word ds ≡ Some x → IsEvent table (array (item (string text) ds)) x
-
-sound_event_words : (table : List Class) → EachWord (IsEventRead table) event_words
-unfolding event_of expect_of
-sound_event_words table =
-    (λ ds x e. one_read (number_at 0 MOST_TICKS) happens.Advance ds x e
-    (λ d n ds_is n_is made. rw (ds_is, ← made) (advances d n (number_is 0 MOST_TICKS d n n_is)))) &
-    (λ ds x e. one_read (number_at 0 MOST_DRAINED) happens.Drain ds x e
-    (λ d n ds_is n_is made. rw (ds_is, ← made) (drains d n (number_is 0 MOST_DRAINED d n n_is)))) &
-    (λ ds x e. two_read text_at (outcome_at table) happens.Expect ds x e
-    (λ c f n y ds_is n_is y_is made. rw (ds_is, text_is c n n_is, ← made) (expects n f y (sound_outcome table f y y_is)))) &
-    tt
-
-sound_other : (table : List Class) (d : Data) (x : Event) → other_event table d ≡ Some x → IsEvent table d x
-unfolding other_event
-sound_other table d x e =
-    bind (call_at d) _ x e (λ c c_is c_then.
-    bind (event_word c.0) _ x c_then (λ w w_is w_then.
-    rw (call_is d c c_is)
-    (found_word (IsEventRead table) event_words (sound_event_words table) c.0 w w_is c.1 x w_then)))
-
-sound_event_by : (table : List Class) (d : Data) (x : Event) (o : Option Action) (other : Option Event)
-    → ((a : Action) → o ≡ Some a → IsAction table d a)
-    → ((y : Event) → other ≡ Some y → IsEvent table d y) → event_by o other ≡ Some x → IsEvent table d x
-sound_event_by table d x (Some a) other act happen e = rw (← some_injective e) (acts d a (act a refl))
-sound_event_by table d x None other act happen e = happen x e
-
-sound_event : (table : List Class) (d : Data) (x : Event) → event_at table d ≡ Some x → IsEvent table d x
-unfolding event_at
-sound_event table d x e =
-    sound_event_by table d x (action_at table max_depth d) (other_event table d)
-    (sound_action table (readers table max_depth) (sound_readers table max_depth) d) (sound_other table d) e
 
 sound_declaration : (d : Data) (x : Declaration) → declaration_at d ≡ Some x → IsDeclaration d x
 unfolding declaration_at
@@ -124,7 +83,7 @@ sound_caller table = sound_list (IsBody table) (body_at table max_depth) (sound_
 
 -- a value that is read as a script has its shape
 pub sound_script : (d : Data) (draft : Draft) → script_at d ≡ Some draft → IsScript d draft
-unfolding script_at fields_at table_for
+unfolding script_by fields_at table_for
 sound_script (object ms) draft e =
     bind (option_and_then (number_at 1 LAST_VERSION) (get_member (codes "version") ms)) _ draft e (λ v v_is v_then.
     bind (fields_at (keys_of v) (object ms)) _ draft v_then (λ t t_is t_then.
@@ -137,7 +96,7 @@ sound_script (object ms) draft e =
     (λ z z_is z_then.
     bind (field [] (list_at (caller_at (table_of c))) (get_member (codes "callers") ms)) _ draft z_then
     (λ p p_is p_then.
-    bind (option_and_then (list_at (event_at (table_of c))) (get_member (codes "events") ms)) _ draft p_then
+    bind (option_and_then (events_in true (table_of c)) (get_member (codes "events") ms)) _ draft p_then
     (λ y y_is y_then.
     rw (← some_injective y_then) (record {
       members = ms;
@@ -170,21 +129,12 @@ sound_script (object ms) draft e =
           (sound_list (IsList (IsBody (table_of c))) (caller_at (table_of c)) (sound_caller (table_of c)))
           (get_member (codes "callers") ms) p_is;
       events =
-          sound_key y (IsList (IsEvent (table_of c))) (list_at (event_at (table_of c)))
-          (sound_list (IsEvent (table_of c)) (event_at (table_of c)) (sound_event (table_of c)))
+          sound_key y (AreEvents (table_of c)) (events_in true (table_of c)) (sound_events (table_of c))
           (get_member (codes "events") ms) y_is;
     }))))))))))
 sound_script _ draft e = cc
 
 -- ---- events, posts, scripts
-
-complete_event : (table : List Class) (d : Data) (e : Event) → depth d ≤ max_depth → IsEvent table d e
-    → event_at table d ≡ Some e
-unfolding event_at event_of expect_of other_event action_by call_at none first one two sole pair
-complete_event table d _ h (acts _ a g) = rw (complete_action table max_depth g h) refl
-complete_event table _ _ h (advances d n g) = rw (complete_number 0 MOST_TICKS d n g) refl
-complete_event table _ _ h (drains d n g) = rw (complete_number 0 MOST_DRAINED d n g) refl
-complete_event table _ _ h (expects name d x g) = rw (complete_outcome table d x g) refl
 
 complete_each_deep : {X : Type 0} (Is : Data → X → Type 0) (at : Data → Option X)
     → ((d : Data) (x : X) → depth d ≤ max_depth → Is d x → at d ≡ Some x)
@@ -247,12 +197,11 @@ complete_callers table ms callers deep None within h = rw h refl
 complete_callers table ms callers deep (Some d) within h =
     complete_list_deep (IsList (IsBody table)) (caller_at table) (complete_caller table) d callers (within d refl) h
 
-complete_events : (table : List Class) (events : List Event)
-    → (o : Option Data) → ((d : Data) → o ≡ Some d → depth d ≤ max_depth) → Key (IsList (IsEvent table)) o events
-    → option_and_then (list_at (event_at table)) o ≡ Some events
-complete_events table events None within h = absurd h
-complete_events table events (Some d) within h =
-    complete_list_deep (IsEvent table) (event_at table) (complete_event table) d events (within d refl) h
+complete_key_events : (table : List Class) (events : List Event)
+    → (o : Option Data) → ((d : Data) → o ≡ Some d → depth d ≤ max_depth) → Key (AreEvents table) o events
+    → option_and_then (events_in true table) o ≡ Some events
+complete_key_events table events None within h = absurd h
+complete_key_events table events (Some d) within h = complete_events table d events (within d refl) h
 
 -- a draft whose table, and whether all its classes are declared, are written out
 same_draft : (draft : Draft) (table : List Class) (all : Bool) → draft.script.classes ≡ table → draft.all_declared ≡ all
@@ -274,7 +223,7 @@ same_draft draft table all e f = rw (← e, ← f) refl
 
 -- a value of a script's shape is read as that script
 pub complete_script : (d : Data) (draft : Draft) → depth d ≤ max_depth → IsScript d draft → script_at d ≡ Some draft
-unfolding script_at fields_at table_for
+unfolding script_by fields_at table_for
 complete_script d draft deep h =
     let inside : suc (members_depth h.members) ≤ max_depth = rw h.whole at deep in
     let within : (key : List ℕ) (e : Data) → get_member key h.members ≡ Some e → depth e ≤ max_depth =
@@ -288,9 +237,9 @@ complete_script d draft deep h =
     ≡ Some draft.script.callers =
     complete_callers (table_of draft.declared) h.members draft.script.callers (omega (arith, inside))
     (get_member (codes "callers") h.members) (within (codes "callers")) (rw h.table at h.callers) in
-    let events : option_and_then (list_at (event_at (table_of draft.declared))) (get_member (codes "events") h.members)
+    let events : option_and_then (events_in true (table_of draft.declared)) (get_member (codes "events") h.members)
     ≡ Some draft.script.events =
-    complete_events (table_of draft.declared) draft.script.events (get_member (codes "events") h.members)
+    complete_key_events (table_of draft.declared) draft.script.events (get_member (codes "events") h.members)
     (within (codes "events")) (rw h.table at h.events) in
     let version =
     complete_key draft.version (IsNumber 1 LAST_VERSION) (number_at 1 LAST_VERSION) (complete_number 1 LAST_VERSION)

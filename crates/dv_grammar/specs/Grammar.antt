@@ -1,7 +1,7 @@
 -- The grammar of scripts: which JSON stands for what, a rule a line (Twisted: the methods of `Deferred`, and of the
 -- objects round it).
-use Rattle.std.specs.Prelude.{◌≡◌, ℕ, nat_eq, nat_lt, if◌then◌else◌, ℤ, Bool, true, List, [], ◌∷◌, Option, Some, None}
-use Rattle.std.specs.Prelude.{codes}
+use Rattle.std.specs.Prelude.{◌≡◌, ℕ, zero, suc, nat_eq, nat_lt, if◌then◌else◌, ℤ, Bool, true, List, [], ◌∷◌, ◌++◌}
+use Rattle.std.specs.Prelude.{Option, Some, None, codes}
 use Rattle.std.specs.Prelude.{◌&&◌, min, max}
 use Rattle.serde_json.specs.Data.{Data, null, boolean, string, array, object, Items, no_items, item, Members}
 use Rattle.serde_json.specs.Find.{get_member}
@@ -39,6 +39,7 @@ use Rattle.dv_forms.specs.Leaving.{may_leave}
 use Rattle.dv_forms.specs.Forms.{call, IsList, Field, Key, is_keyed_by, IsText, IsInteger, IsNumber, IsClass, IsValue}
 use Rattle.dv_forms.specs.Forms.{IsFailure}
 use Rattle.dv_forms.specs.Limits.{most_limit}
+use Rattle.dv_forms.specs.declared.limits.TheConstants.{MOST_TIMES}
 use Rattle.dv_forms.specs.Table.{table_of, all_declared}
 use Rattle.std.specs.List.{list_all}
 use Rattle.dv_script.specs.declared.action.Action.TheFolds.{fold-Action, fold-Body, fold-Statement}
@@ -325,6 +326,29 @@ pub data IsEvent (table : List Class) : Data → Event → Type 0 where
   expects : (name : List ℕ) (d : Data) (x : Expected) → IsOutcome table d x
       → IsEvent table (call (codes "expect") (string name ∷ d ∷ [])) (event.Expect name x)
 
+-- the events, so many times in a row
+abbrev pub repeated : ℕ → List Event → List Event
+repeated zero es = []
+repeated (suc n) es = es ++ repeated n es
+
+mutual
+  -- an item of an array of events: one event, or a repeat, which stands for what it repeats, written out
+  pub data IsListed (table : List Class) : Data → List Event → Type 0 where
+    one_event : (d : Data) (e : Event) → IsEvent table d e → IsListed table d (e ∷ [])
+    -- ["repeat",N,[EVENT..]]
+    repeats : (d : Data) (n : ℕ) (ds : Items) (es : List Event) → IsNumber 0 MOST_TIMES d n → AreListed table ds es
+        → IsListed table (call (codes "repeat") (d ∷ array ds ∷ [])) (repeated n es)
+
+  -- the items of an array of events
+  pub data AreListed (table : List Class) : Items → List Event → Type 0 where
+    no_events : AreListed table no_items []
+    more_events : (d : Data) (ds : Items) (es rest : List Event) → IsListed table d es → AreListed table ds rest
+        → AreListed table (item d ds) (es ++ rest)
+
+-- an array of events
+abbrev pub AreEvents : List Class → Data → List Event → Type 0
+AreEvents table d es = (ds : Items) × (d ≡ array ds) × AreListed table ds es
+
 -- a class that is declared: [NAME,PARENT]
 pub data IsDeclaration : Data → Declaration → Type 0 where
   declares : (name parent : List ℕ) → IsDeclaration (array (item (string name) (item (string parent) no_items)))
@@ -370,7 +394,7 @@ pub record IsScript (d : Data) (draft : Draft) : Type 0 where
       (get_member (codes "bodies") members) draft.script.bodies
   pub callers : Field [] (IsList (IsList (IsBody draft.script.classes)))
       (get_member (codes "callers") members) draft.script.callers
-  pub events : Key (IsList (IsEvent draft.script.classes)) (get_member (codes "events") members) draft.script.events
+  pub events : Key (AreEvents draft.script.classes) (get_member (codes "events") members) draft.script.events
 
 -- ---- times: the steps of the world cut a delay or an interval that is too long. None that stands in the grammar is.
 

@@ -13,14 +13,14 @@ use Rattle.dv_reader.specs.declared.error.ScriptFault.TheVariants.{BadName, BadC
 use Rattle.dv_forms.specs.Forms.{Field, IsNumber}
 use Rattle.dv_forms.specs.Limits.{most_limit, most_nodes}
 use Rattle.dv_forms.specs.declared.limits.TheConstants.{WIDEST_LIMIT, WIDEST_NODES}
-use Rattle.dv_reader.specs.Limits.{nodes, is_small}
+use Rattle.dv_reader.specs.Limits.{all_nodes, is_small}
 use Rattle.dv_reader.specs.Refusal.{IsDocument, IsMisshapen, keeps_version, HasShape, Says, Refuses}
 use Rattle.dv_grammar.specs.Shape.{script_at}
 use Rattle.dv_reader.specs.Passes.{JudgedIn, Passes, is_version, shape_at}
 use Rattle.dv_grammar.proofs.Steps.{some_injective, bind}
 use Rattle.dv_grammar.proofs.Scripts.{complete_script}
 use Rattle.dv_grammar.proofs.Scripts.{sound_script}
-use Rattle.dv_reader.proofs.Accepted.{shape_found}
+use Rattle.dv_reader.proofs.Accepted.{shape_found, small_nodes}
 use Rattle.dv_reader.proofs.Version.{version_is, no_version}
 use Rattle.dv_reader.proofs.Count.{events_few}
 use Rattle.dv_reader.proofs.Lengths.{limit_most, nodes_most}
@@ -96,10 +96,9 @@ pub few : (bytes : List ℕ) (r : Result Script ScriptFault) → Passes bytes r
 few bytes (Ok s) h =
     let j = h.4 in
     let same : length s.events ≡ length j.0.script.events = ap (λ (x : Script). length x.events) (sym j.3) in
-    let few_events : length j.0.script.events ≤ nodes h.0 =
-    events_few h.0 j.0 (sound_script h.0 j.0 (shape_is h.0 j.0 j.2).0) in
-    let few_nodes : nodes h.0 ≤ most_nodes j.0.version = leb-true (nodes h.0) (most_nodes j.0.version)
-    (and_parts _ _ (and_parts _ _ (and_parts _ _ (and_parts _ _ (and_parts _ _ (and_parts _ _ j.4).0).0).0).0).0).0 in
+    let few_events : length j.0.script.events ≤ all_nodes h.0 =
+    events_few h.0 j.0 (depth-read bytes h.0 h.3) (sound_script h.0 j.0 (shape_is h.0 j.0 j.2).0) in
+    let few_nodes : all_nodes h.0 ≤ most_nodes j.0.version = small_nodes h.0 j.0 j.4 in
     omega (arith, same, few_events, few_nodes, nodes_most j.0.version)
 few bytes (Err fault) h = tt
 

@@ -17,8 +17,8 @@ pub enum ScriptFault {
     /// It is outside the grammar, or a number is outside its range.
     BadShape,
     /// It has more than 65,536 nodes, or in version 3 more than 1,000,000 (each array, object and
-    /// scalar is one); 256 classes, 4 pools, 256 bodies that it names, 8 callers or 256 posts of a
-    /// caller; or its advances sum to more than 10^15.
+    /// scalar is one), with those that its repeats add; 256 classes, 4 pools, 256 bodies that it
+    /// names, 8 callers or 256 posts of a caller; or its advances sum to more than 10^15.
     TooMany,
     /// A name of an object, of a pool, of a body or of a declared class isn't of 1 to 32 of A to Z,
     /// a to z, 0 to 9 and `_`, and in version 3 `-`, `.` and `:` after the first, nor `@` where a

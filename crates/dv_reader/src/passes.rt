@@ -11,7 +11,7 @@ ghost use Rattle.dv_reader.specs.Refusal.{Says, Refuses};
 ghost use Rattle.dv_reader.specs.Passes.{is_version, Accepts, IsSound, Judged, Passes};
 
 use crate::error::ScriptFault;
-use crate::limits::{is_small, most_bytes_of};
+use crate::limits::{adds_few_nodes, is_small, most_bytes_of};
 use dv_forms::limits::WIDEST_BYTES;
 use dv_forms::versions::LAST_VERSION;
 use dv_forms::want::{Keyed, Want};
@@ -138,14 +138,15 @@ fn accept(json: &Json, draft: &Draft) -> Result<(), ScriptFault>
 }
 
 /// The script that a JSON value is, or the least refusal.
-#[tactic(auto, using(crate::proofs::Accepted::accepted, crate::proofs::Accepted::refused))]
+#[tactic(auto, using(crate::proofs::Accepted::accepted, crate::proofs::Accepted::refused, crate::proofs::Accepted::unshaped))]
 fn judge(alloc: Global, json: &Json) -> Result<Script, ScriptFault>
     ensures { Judged (view json.now) result }
 {
     if !is_version(json) {
         return Err(ScriptFault::BadVersion);
     }
-    let draft = shape(alloc, json)?;
+    let expands = adds_few_nodes(json);
+    let draft = shape(alloc, expands, json)?;
     match accept(json, &draft) {
         Ok(()) => Ok(draft.into_script()),
         Err(fault) => {

@@ -77,7 +77,7 @@ impl Value {
 fn copy_all(alloc: Global, values: &[Value]) -> Result<Items<Value>, AllocError>
     ensures { IfOk result (λ vs. vs ≡ values.now) }
 {
-    let mut copies = Items::new(alloc);
+    let mut copies = Items::with_capacity(alloc, values.len())?;
     for value in values {
         copies.push(value.copy(alloc)?)?;
     }

@@ -1,7 +1,7 @@
 -- Where each part of a value fits, it reads.
 use Rattle.std.proofs.Common.{Ordering, Less, Equal, Greater, is_eq, nat_cmp, ◌≡◌, ℕ, zero, suc, ◌≤◌, nat_eq, nat_le}
 use Rattle.std.proofs.Common.{nat_lt}
-use Rattle.std.proofs.Common.{Bool, true, false, ◌&&◌, ◌||◌, List, [], ◌∷◌, Option, Some, None, is_some}
+use Rattle.std.proofs.Common.{Bool, true, false, ◌&&◌, ◌||◌, List, [], ◌∷◌, ◌++◌, Option, Some, None, is_some}
 use Rattle.std.proofs.Common.{option_and_then, bytes_eq, refl}
 use Rattle.std.proofs.Common.{sym, ap, subst, ◌∙◌, arith, codes}
 use Rattle.std.specs.List.{list_any}
@@ -61,7 +61,10 @@ use Rattle.dv_grammar.specs.Grammar.{more_bodies, IsStatement}
 use Rattle.dv_grammar.specs.Grammar.{performs, awaits, tries, finishes, raises_again, takes_caught, leaves}
 use Rattle.dv_grammar.specs.Grammar.{AreStatements, no_statements, more_statements}
 use Rattle.dv_grammar.specs.Grammar.{IsOutcome, is_unfired, is_waiting, is_ok, is_failed}
-use Rattle.dv_grammar.specs.Grammar.{IsEvent, acts, advances, drains, expects, IsDeclaration, declares, IsPool, pools}
+use Rattle.dv_grammar.specs.Grammar.{acts, advances, drains, expects, IsDeclaration, declares, IsPool, pools}
+use Rattle.dv_grammar.specs.Grammar.{repeated, IsListed, one_event, repeats, AreListed, no_events, more_events}
+use Rattle.dv_grammar.specs.Grammar.{AreEvents}
+use Rattle.dv_forms.specs.declared.limits.TheConstants.{MOST_TIMES}
 use Rattle.dv_grammar.specs.Grammar.{IsCooperator, IsScript, IsBound, IsNamedBody, names_body}
 use Rattle.dv_grammar.proofs.WordsLemmas.{◌&◌}
 use Rattle.dv_forms.specs.declared.versions.TheConstants.{BODIES_SINCE, COMMENTS_SINCE, LAST_VERSION}
@@ -694,44 +697,84 @@ are_read v (suc n) table =
 
 -- ---- events
 
--- the arguments of a word read as those of an event
+-- an array of which each part fits reads as events
+abbrev ReadsEvents : ℕ → ℕ → List Class → Type 0
+ReadsEvents v n table =
+    (d : Data) → IsFine v n (want.Array item_of.Event) d → (es : List Event) × AreEvents table d es
+
+-- the arguments of a word read as those of an item of an array of events
 abbrev IsEventRead : ℕ → ℕ → List Class → List ℕ → List Want → Type 0
 IsEventRead v n table word wants =
-    (ds : Items) → AreFine v n wants ds → (e : Event) × IsEvent table (array (item (string word) ds)) e
+    (ds : Items) → AreFine v n wants ds → (es : List Event) × IsListed table (array (item (string word) ds)) es
 
-other_events : (v n : ℕ) (table : List Class) → EachForm (IsEventRead v n table) (own_forms call_of.Event)
-other_events v n table =
+other_events : (v n : ℕ) (table : List Class) → ReadsEvents v n table
+    → EachForm (IsEventRead v n table) (own_forms call_of.Event)
+other_events v n table below =
     (λ ds h.
     let a = one_arg v n (want.Leaf (leaf.Number 0 MOST_TICKS)) ds h in
     let k = number_fine v n 0 MOST_TICKS a.a a.fine in
-    rw (a.items) (happens.Advance k.0, advances a.a k.0 k.1)) &
+    rw (a.items) (happens.Advance k.0 ∷ [], one_event _ (happens.Advance k.0) (advances a.a k.0 k.1))) &
     (λ ds h.
     let a = one_arg v n (want.Leaf (leaf.Number 0 MOST_DRAINED)) ds h in
     let k = number_fine v n 0 MOST_DRAINED a.a a.fine in
-    rw (a.items) (happens.Drain k.0, drains a.a k.0 k.1)) &
+    rw (a.items) (happens.Drain k.0 ∷ [], one_event _ (happens.Drain k.0) (drains a.a k.0 k.1))) &
     (λ ds h.
     let a = two_args v n a_deferred (want.Call call_of.Outcome) ds h in
     let t = text_of a.a (fits_fine a.one) in
     let x = outcome_fine v n table a.b a.two in
-    rw (a.items, t.1) (happens.Expect t.0 x.0, expects t.0 a.b x.0 x.1)) &
+    rw (a.items, t.1)
+    (happens.Expect t.0 x.0 ∷ [], one_event _ (happens.Expect t.0 x.0) (expects t.0 a.b x.0 x.1))) &
+    (λ ds h.
+    let a = two_args v n (want.Leaf (leaf.Number 0 MOST_TIMES)) (want.Array item_of.Event) ds h in
+    let k = number_fine v n 0 MOST_TIMES a.a a.one in
+    let es = below a.b a.two in
+    rw (a.items, es.1.1) (repeated k.0 es.0, repeats a.a k.0 es.1.0 es.0 k.1 es.1.2)) &
     tt
 
 event_by : (v n : ℕ) (table : List Class) (word : List ℕ) (wants : List Want) (ds : Items)
     → wants_in (own_forms call_of.Action) word (count ds) ≡ Some wants → AreFine v n wants ds
-    → (e : Event) × IsEvent table (array (item (string word) ds)) e
+    → (es : List Event) × IsListed table (array (item (string word) ds)) es
 event_by v n table word wants ds form args =
     let x = found_form (IsActionRead v n table) (own_forms call_of.Action) (actions v n table (are_read v n table)) word
     (count ds) wants form ds args in
-    (happens.Action x.0, acts _ x.0 x.1)
+    (happens.Action x.0 ∷ [], one_event _ (happens.Action x.0) (acts _ x.0 x.1))
 
-event_fine : (v n : ℕ) (table : List Class) (d : Data) → IsFine v n (want.Call call_of.Event) d
-    → (e : Event) × IsEvent table d e
-event_fine v n table d h =
-    let o = open_call v n call_of.Event d (fits_fine h) (λ k u e wants is. same k h wants is) in
+-- an item of an array of which each part fits reads as events
+abbrev ReadsListed : ℕ → ℕ → List Class → Type 0
+ReadsListed v n table =
+    (d : Data) → IsFine v n (want.Call call_of.Event) d → (es : List Event) × IsListed table d es
+
+listed_of : (table : List Class) (ds : Items)
+    → ((k : ℕ) (e : Data) → get_item k ds ≡ Some e → (es : List Event) × IsListed table e es)
+    → (es : List Event) × AreListed table ds es
+listed_of table no_items h = ([], no_events)
+listed_of table (item d ds) h =
+    let x = h 0 d refl in
+    let xs = listed_of table ds (λ k e is. h (suc k) e is) in
+    (x.0 ++ xs.0, more_events d ds x.0 xs.0 x.1 xs.1)
+
+events_by : (v n : ℕ) (table : List Class) → ReadsListed v n table → ReadsEvents v n table
+events_by v n table one d h =
+    let o = open_array v n item_of.Event d h in
+    let es = listed_of table o.items (λ k e is. one e (o.each k e is)) in
+    (es.0, (o.items, o.whole, es.1))
+
+event_fine : (v n : ℕ) (table : List Class) → ReadsListed v n table
+event_fine v zero table (array ds) h = let deep : depth (array ds) ≤ 0 = h.deep in absurd (omega (arith, deep))
+event_fine v zero table d h = let fit : fits v (want.Call call_of.Event) d ≡ true = fits_fine h in cc
+event_fine v (suc n) table d h =
+    let o = open_call v n call_of.Event d (fits_fine h) (λ k u e wants is. inside k h wants is) in
     rw (o.whole) (either_found (wants_in (own_forms call_of.Event) o.word (count o.rest)) _ o.wants o.form
-    (λ form. found_form (IsEventRead v n table) (own_forms call_of.Event) (other_events v n table) o.word
+    (λ form. found_form (IsEventRead v n table) (own_forms call_of.Event)
+    (other_events v n table (events_by v n table (event_fine v n table))) o.word
     (count o.rest) o.wants form o.rest o.args)
     (λ form. event_by v n table o.word o.wants o.rest form o.args))
+
+key_events : (v n : ℕ) (table : List Class) (o : Option Data) → is_some o ≡ true
+    → ((e : Data) → o ≡ Some e → IsFine v n (want.Array item_of.Event) e)
+    → (es : List Event) × Key (AreEvents table) o es
+key_events v n table None is h = cc
+key_events v n table (Some d) is h = events_by v n table (event_fine v n table) d (h d refl)
 
 -- ---- declarations, pools, the cooperator
 
@@ -808,12 +851,6 @@ list_field : {X : Type 0} (v n : ℕ) (i : Item) (Is : Data → X → Type 0)
 list_field v n i Is one None h = ([], refl)
 list_field v n i Is one (Some d) h = list_of v n i Is one d (h d refl)
 
-list_key : {X : Type 0} (v n : ℕ) (i : Item) (Is : Data → X → Type 0)
-    → ((e : Data) → IsFine v n (item_want i) e → (x : X) × Is e x) → (o : Option Data) → is_some o ≡ true
-    → ((e : Data) → o ≡ Some e → IsFine v n (want.Array i) e) → (xs : List X) × Key (IsList Is) o xs
-list_key v n i Is one None is h = cc
-list_key v n i Is one (Some d) is h = list_of v n i Is one d (h d refl)
-
 -- ---- scripts
 
 no_value : (o : Option Data) → ((e : Data) → o ≡ Some e → ⊥) → o ≡ None
@@ -867,7 +904,7 @@ script_fine (object ms) suit =
     let bodied = bodies_field v n table (nat_lt v BODIES_SINCE) refl ms h in
     let callers = list_field v n item_of.Caller (IsList (IsBody table)) (list_of v n item_of.Body (IsBody table)
     (are_read v n table).of_body) (get_member (codes "callers") ms) (λ e is. value_fine (codes "callers") h refl is) in
-    let events = list_key v n item_of.Event (IsEvent table) (event_fine v n table)
+    let events = key_events v n table
     (get_member (codes "events") ms) keys.1 (λ e is. value_fine (codes "events") h refl is) in (
       record {
         version = version.0;

@@ -9,7 +9,7 @@ use Rattle.dv_script.specs.declared.limits.TheConstants.{MOST_BODIES, MOST_CALLE
 use Rattle.dv_script.specs.declared.limits.TheConstants.{MOST_POSTS}
 use Rattle.dv_clock.specs.declared.limits.TheConstants.{MOST_TICKS}
 use Rattle.dv_forms.specs.Limits.{most_nodes}
-use Rattle.dv_reader.specs.Limits.{nodes}
+use Rattle.dv_reader.specs.Limits.{all_nodes}
 use Rattle.dv_reader.specs.declared.error.ScriptFault.{ScriptFault}
 use Rattle.dv_reader.specs.declared.error.ScriptFault.TheVariants.{TooLong, NotJson, BadVersion, BadShape, TooMany}
 use Rattle.dv_reader.specs.declared.error.ScriptFault.TheVariants.{BadName, BadClass, OutOfMemory, BadPool, BadBody}
@@ -46,8 +46,8 @@ IsMisshaped d m = fits (version_in d) m.want (view m.found.now) ≡ false
 
 -- TooMany: there is too much of what stands there
 pub data IsTooMuch (d : Data) (m : Misfit) : Type 0 where
-  -- of nodes in the whole, by its version
-  many_nodes : IsAt [] m → most_nodes (version_in d) < nodes d → IsTooMuch d m
+  -- of nodes in the whole, with those that its repeats add, by its version
+  many_nodes : IsAt [] m → most_nodes (version_in d) < all_nodes d → IsTooMuch d m
   many_classes : IsAt (to_key (codes "classes") ∷ []) m → MOST_CLASSES < count_in (codes "classes") d → IsTooMuch d m
   many_pools : IsAt (to_key (codes "pools") ∷ []) m → MOST_POOLS < count_in (codes "pools") d → IsTooMuch d m
   many_bodies : IsAt (to_key (codes "bodies") ∷ []) m → MOST_BODIES < count_in (codes "bodies") d → IsTooMuch d m

@@ -12,7 +12,7 @@ use std::alloc::AllocError;
 /// The first version whose inline bodies have the statements finally, raise and caught.
 const FINALLY_SINCE: u32 = 3;
 
-/// The first version that has the event expect.
+/// The first version that has the events expect and repeat.
 const EXPECT_SINCE: u32 = 3;
 
 /// How the forms of a word are shown: most have one, and some two.
@@ -191,7 +191,7 @@ fn event_word_text(version: u32) -> &'static str {
     if version < EXPECT_SINCE {
         "the word of an action, advance or drain"
     } else {
-        "the word of an action, advance, drain or expect"
+        "the word of an action, advance, drain, expect or repeat"
     }
 }
 
@@ -320,7 +320,7 @@ fn write_few_nodes(text: &mut String, version: u32) -> Result<(), AllocError> {
     let most = most_nodes(version);
     write!(
         text,
-        "{most} nodes at most, of which each array, object, text, number, boolean and null is one"
+        "{most} nodes at most, of which each array, object, text, number, boolean and null is one, with those that repeats add"
     )
 }
 

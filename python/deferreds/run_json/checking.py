@@ -8,6 +8,7 @@ from dataclasses import dataclass
 from typing import Any, Dict, Iterator, List, Optional, Sequence
 
 from ..program import NotRun
+from ..repeats import written_out
 from ..view.facts import NotFacts, read_facts
 
 from .agreeing import Told, agreement
@@ -198,7 +199,7 @@ def check_run(script: str, printed: Ran, told: Ran) -> List[Told]:
 
 def check_events(script: str, lines: Sequence[Told]) -> None:
     """Events come in order; an advance begins one of that kind, and a drain too."""
-    events: List[Any] = json.loads(script)["events"]
+    events: List[Any] = written_out(json.loads(script)["events"])
     last = 0
     for entry in _of_type(lines, "entry"):
         event: Optional[int] = entry["event"]

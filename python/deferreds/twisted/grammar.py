@@ -52,6 +52,8 @@ LIMITS: Dict[int, range] = {
 }
 ADVANCES = _numbers(_of_word("advance", 0))
 DRAINS = _numbers(_of_word("drain", 0))
+#: how often a repeat has its events happen
+REPEATS = _numbers(_of_word("repeat", 0))
 DELAYS = _numbers(_of_word("later", 1))
 INTERVALS = _numbers(_of_word("loop", 2))
 #: the latest time that a call is due at
@@ -220,9 +222,10 @@ STATEMENTS = _table("statement")
 #: the first version that has a statement
 STATEMENTS_SINCE = _since("statement")
 WORKS = _table("work")
-#: the event by which a script expects something, the first version that has it, and what may be expected
+#: the first version that has an event that is no action
+EVENTS_SINCE = _since("event")
+#: the event by which a script expects something, and what may be expected
 EXPECTING: Dict[str, List[Arguments]] = {"expect": [_kinds(row) for row in LANGUAGE.at("event") if row.word == "expect"]}
-EXPECTING_SINCE = _since("event")
 OUTCOMES = _table("outcome")
 #: the first version that has some form of an action, of an end or of this event
 SINCE: Dict[str, int] = {

@@ -109,7 +109,7 @@ class Scripts:
         events += [self._event() for _ in range(self._random.randint(3, 16))]
         if self._is_third and self._one_in(2):
             events += [self._expect() for _ in range(3)]
-        root["events"] = events
+        root["events"] = self._repeated(events) if self._is_third and self._one_in(3) else events
         return json.dumps(root, separators=(",", ":"))
 
     def _version(self, root: Dict[str, Any]) -> None:
@@ -162,6 +162,15 @@ class Scripts:
         if self._has("posts") and self._one_in(5):
             return ["drain", self._random.randint(0, 4)]
         return self._action(0)
+
+    def _repeated(self, events: List[List[Any]]) -> List[List[Any]]:
+        """The events, of which some that follow one another repeat, and in half of the scripts some of these again."""
+        first = self._random.randrange(len(events))
+        last = first + self._random.randint(1, 4)
+        inside = events[first:last]
+        if self._one_in(2):
+            inside = self._repeated(inside)
+        return [*events[:first], ["repeat", self._random.randint(0, 3), inside], *events[last:]]
 
     def _expect(self) -> List[Any]:
         """An event that expects something: what a Deferred has in few runs, if it is a value."""

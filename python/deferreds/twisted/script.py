@@ -9,6 +9,7 @@ from itertools import accumulate
 from typing import AbstractSet, Any, Dict, List, Mapping, NoReturn, Optional, Sequence, Tuple
 
 from ..language import LANGUAGE
+from ..repeats import written_out
 from . import grammar
 from .grammar import Kind
 
@@ -56,7 +57,8 @@ class Script:
     def __init__(self, root: Mapping[str, Any]) -> None:
         cooperator = root.get("cooperator", LANGUAGE.usual)
         self.root = root
-        self.events: List[List[Any]] = root["events"]
+        #: its events, in which repeats are written out
+        self.events: List[List[Any]] = written_out(root["events"])
         self.limit: int = root.get("limit", grammar.DEFAULT_LIMIT)
         self.classes: List[List[str]] = root.get("classes", [])
         self.units: int = cooperator["units"]
@@ -230,17 +232,28 @@ class _Shape:
         self.found.names.append(self._text(value[0]))
         self._body(value[1])
 
-    def _event(self, event: Any) -> None:
+    def _event(self, event: Any, times: int = 1) -> None:
+        """An event, which happens so many times."""
         word = self._word(event)
         if word in ("advance", "drain"):
             if len(event) != 2:
                 self._refuse(event)
             self._number(event[1], grammar.ADVANCES if word == "advance" else grammar.DRAINS)
-            self.found.advanced += event[1] if word == "advance" else 0
+            self.found.advanced += event[1] * times if word == "advance" else 0
+        elif word == "repeat":
+            self._repeat(event, times)
         elif word == "expect":
-            self._said(event, grammar.EXPECTING, grammar.EXPECTING_SINCE)
+            self._said(event, grammar.EXPECTING, grammar.EVENTS_SINCE)
         else:
             self._said(event, grammar.ACTIONS, grammar.ACTIONS_SINCE)
+
+    def _repeat(self, repeat: Any, times: int) -> None:
+        """A repeat, which happens so many times."""
+        if grammar.EVENTS_SINCE["repeat", 2] > self._version or len(repeat) != 3:
+            self._refuse(repeat)
+        self._number(repeat[1], grammar.REPEATS)
+        for event in self._array(repeat[2]):
+            self._event(event, times * repeat[1])
 
     def _said(
         self, said: Any, table: Dict[str, List[grammar.Arguments]], since: Mapping[Tuple[str, int], int] = _ALWAYS
@@ -407,7 +420,7 @@ class _Shape:
 def _refuse_counts(root: Mapping[str, Any], found: _Found) -> None:
     callers = root.get("callers", [])
     if (
-        nodes(root) > LANGUAGE.most("nodes", root["version"])
+        nodes(root) + added(root["events"]) > LANGUAGE.most("nodes", root["version"])
         or len(root.get("classes", [])) > grammar.MOST_CLASSES
         or len(root.get("pools", [])) > grammar.MOST_POOLS
         or len(root.get("bodies", [])) > grammar.MOST_BODIES
@@ -425,6 +438,25 @@ def nodes(value: Any) -> int:
     if isinstance(value, list):
         return 1 + sum(map(nodes, value))
     return 1
+
+
+def added(events: Sequence[Any]) -> int:
+    """How many nodes the repeats among these events add."""
+    total = 0
+    for event in events:
+        if event[0] == "repeat":
+            inside = added(event[2])
+            total += inside + max(0, event[1] - 1) * (_weight(event[2]) + inside)
+    return total
+
+
+def _weight(value: Any) -> int:
+    """How many nodes a value has where it is repeated: a text has one more for each 64 bytes."""
+    if isinstance(value, dict):
+        return 1 + sum(map(_weight, value.values()))
+    if isinstance(value, list):
+        return 1 + sum(map(_weight, value))
+    return 1 + len(value.encode()) // 64 if isinstance(value, str) else 1
 
 
 def is_name(text: str, version: int) -> bool:

@@ -6,7 +6,7 @@ ghost use Rattle.dv_forms.specs.declared.versions.TheConstants.{LAST_VERSION};
 ghost use Rattle.dv_forms.specs.Limits.{most_limit};
 ghost use Rattle.dv_forms.specs.Parts.{each, field, fields_at, list_at, number_at};
 ghost use Rattle.dv_grammar.specs.Grammar.{keys_of};
-ghost use Rattle.dv_grammar.specs.Shape.{caller_at, event_at, named_body_at, pool_at, script_at};
+ghost use Rattle.dv_grammar.specs.Shape.{caller_at, events_in, named_body_at, pool_at, script_by};
 
 use crate::draft::Draft;
 use crate::reading::body::{bodies, body};
@@ -74,14 +74,15 @@ fn caller(alloc: Global, classes: &Classes, json: &Json) -> Result<Items<Body>, 
 fn all_events(
     alloc: Global,
     classes: &Classes,
+    expands: bool,
     json: Option<&Json>,
 ) -> Result<Items<Event>, ShapeFault>
-    ensures { Reads result (option_and_then (list_at (event_at classes.now))
+    ensures { Reads result (option_and_then (events_in expands classes.now)
         (option_map (λ d. view d.now) json.entry)) }
 {
     match json {
         None => Err(ShapeFault::BadShape),
-        Some(json) => events(alloc, classes, array(json)?),
+        Some(json) => events(alloc, classes, expands, MOST_LEVELS, array(json)?),
     }
 }
 
@@ -211,10 +212,11 @@ fn named_body(alloc: Global, classes: &Classes, json: &Json) -> Result<NamedBody
     Ok(NamedBody { name, body })
 }
 
-/// A script by its shape alone.
-#[tactic(auto, unfolding(crate::specs::Shape::script_at))]
-pub fn shape(alloc: Global, json: &Json) -> Result<Draft, ShapeFault>
-    ensures { Reads result (script_at (view json.now)) }
+/// A script by its shape alone, in which repeats are written out, or where `expands` is false left
+/// out.
+#[tactic(auto, unfolding(crate::specs::Shape::script_by))]
+pub fn shape(alloc: Global, expands: bool, json: &Json) -> Result<Draft, ShapeFault>
+    ensures { Reads result (script_by expands (view json.now)) }
 {
     let version = version(json.get("version"))?;
     fields_of(version, json)?;
@@ -225,7 +227,7 @@ pub fn shape(alloc: Global, json: &Json) -> Result<Draft, ShapeFault>
     let (classes, all_declared) = table(alloc, declared.as_slice())?;
     let bodies = named_bodies(alloc, &classes, json.get("bodies"))?;
     let callers = callers(alloc, &classes, json.get("callers"))?;
-    let events = all_events(alloc, &classes, json.get("events"))?;
+    let events = all_events(alloc, &classes, expands, json.get("events"))?;
     Ok(Draft {
         version,
         declared,
