@@ -10,6 +10,7 @@ use Rattle.dv_script.specs.declared.body.Body.{Body}
 use Rattle.dv_script.specs.declared.event.Event.{Event}
 use Rattle.dv_script.specs.declared.script.Cooperator.{Cooperator}
 use Rattle.dv_script.specs.declared.script.NamedBody.{NamedBody}
+use Rattle.dv_script.specs.declared.script.NamedCooperator.{NamedCooperator}
 use Rattle.dv_script.specs.declared.script.NamedPool.{NamedPool}
 use Rattle.dv_script.specs.declared.limits.TheConstants.{MOST_DRAINED, MOST_UNITS, MOST_WORKERS}
 use Rattle.dv_script.specs.declared.limits.TheConstants.{USUAL_LIMIT}
@@ -22,11 +23,11 @@ use Rattle.dv_forms.specs.Limits.{most_limit}
 use Rattle.dv_forms.specs.Table.{table_of}
 use Rattle.dv_grammar.specs.Grammar.{AreEvents, cooperator_keys, keys_of, plain_cooperator, IsBody}
 use Rattle.dv_grammar.specs.Grammar.{IsDeclaration, declares, IsPool, pools, IsCooperator, IsScript}
-use Rattle.dv_grammar.specs.Grammar.{IsNamedBody, names_body}
+use Rattle.dv_grammar.specs.Grammar.{IsNamedBody, names_body, IsNamedCooperator, names_cooperator}
 use Rattle.dv_forms.specs.Parts.{each, list_at, text_at, number_at, within, call_at, none, first, one, two, sole, pair}
 use Rattle.dv_forms.specs.Parts.{fields_at, field, declaration_at, table_for}
 use Rattle.dv_grammar.specs.Shape.{body_at, cooperator_at, events_in, named_body_at, pool_at, caller_at, script_at}
-use Rattle.dv_grammar.specs.Shape.{script_by}
+use Rattle.dv_grammar.specs.Shape.{named_cooperator_at, script_by}
 use Rattle.dv_grammar.proofs.Steps.{some_injective, bind}
 use Rattle.dv_grammar.proofs.Leaves.{two_read, text_is, array_is, number_is, sound_list, sound_field}
 use Rattle.dv_grammar.proofs.Repeats.{sound_events, complete_events}
@@ -68,6 +69,13 @@ sound_pool d x e =
     two_read text_at (number_at 0 MOST_WORKERS) _ ds x ds_then (λ c f n k items_are n_is k_is made.
     rw (array_is d ds ds_is, items_are, text_is c n n_is, ← made) (pools n f k (number_is 0 MOST_WORKERS f k k_is))))
 
+sound_named_cooperator : (d : Data) (x : NamedCooperator) → named_cooperator_at d ≡ Some x → IsNamedCooperator d x
+unfolding named_cooperator_at
+sound_named_cooperator d x e =
+    bind (as_array d) _ x e (λ ds ds_is ds_then.
+    two_read text_at cooperator_at _ ds x ds_then (λ c f n k items_are n_is k_is made.
+    rw (array_is d ds ds_is, items_are, text_is c n n_is, ← made) (names_cooperator n f k (sound_cooperator f k k_is))))
+
 sound_named_body : (table : List Class) (d : Data) (x : NamedBody) → named_body_at table d ≡ Some x
     → IsNamedBody table d x
 unfolding named_body_at
@@ -90,13 +98,15 @@ sound_script (object ms) draft e =
     bind (field USUAL_LIMIT (number_at 0 (most_limit v)) (get_member (codes "limit") ms)) _ draft t_then
     (λ l l_is l_then.
     bind (field plain_cooperator cooperator_at (get_member (codes "cooperator") ms)) _ draft l_then (λ o o_is o_then.
-    bind (field [] (list_at pool_at) (get_member (codes "pools") ms)) _ draft o_then (λ q q_is q_then.
+    bind (field [] (list_at named_cooperator_at) (get_member (codes "cooperators") ms)) _ draft o_then
+    (λ w w_is w_then.
+    bind (field [] (list_at pool_at) (get_member (codes "pools") ms)) _ draft w_then (λ q q_is q_then.
     bind (field [] (list_at declaration_at) (get_member (codes "classes") ms)) _ draft q_then (λ c c_is c_then.
-    bind (field [] (list_at (named_body_at (table_of c))) (get_member (codes "bodies") ms)) _ draft c_then
+    bind (field [] (list_at (named_body_at (table_of v c))) (get_member (codes "bodies") ms)) _ draft c_then
     (λ z z_is z_then.
-    bind (field [] (list_at (caller_at (table_of c))) (get_member (codes "callers") ms)) _ draft z_then
+    bind (field [] (list_at (caller_at (table_of v c))) (get_member (codes "callers") ms)) _ draft z_then
     (λ p p_is p_then.
-    bind (option_and_then (events_in true (table_of c)) (get_member (codes "events") ms)) _ draft p_then
+    bind (option_and_then (events_in true (table_of v c)) (get_member (codes "events") ms)) _ draft p_then
     (λ y y_is y_then.
     rw (← some_injective y_then) (record {
       members = ms;
@@ -117,21 +127,25 @@ sound_script (object ms) draft e =
       cooperator =
           sound_field plain_cooperator o IsCooperator cooperator_at sound_cooperator
           (get_member (codes "cooperator") ms) o_is;
+      cooperators =
+          sound_field [] w (IsList IsNamedCooperator) (list_at named_cooperator_at)
+          (sound_list IsNamedCooperator named_cooperator_at sound_named_cooperator)
+          (get_member (codes "cooperators") ms) w_is;
       pools =
           sound_field [] q (IsList IsPool) (list_at pool_at) (sound_list IsPool pool_at sound_pool)
           (get_member (codes "pools") ms) q_is;
       bodies =
-          sound_field [] z (IsList (IsNamedBody (table_of c))) (list_at (named_body_at (table_of c)))
-          (sound_list (IsNamedBody (table_of c)) (named_body_at (table_of c)) (sound_named_body (table_of c)))
+          sound_field [] z (IsList (IsNamedBody (table_of v c))) (list_at (named_body_at (table_of v c)))
+          (sound_list (IsNamedBody (table_of v c)) (named_body_at (table_of v c)) (sound_named_body (table_of v c)))
           (get_member (codes "bodies") ms) z_is;
       callers =
-          sound_field [] p (IsList (IsList (IsBody (table_of c)))) (list_at (caller_at (table_of c)))
-          (sound_list (IsList (IsBody (table_of c))) (caller_at (table_of c)) (sound_caller (table_of c)))
+          sound_field [] p (IsList (IsList (IsBody (table_of v c)))) (list_at (caller_at (table_of v c)))
+          (sound_list (IsList (IsBody (table_of v c))) (caller_at (table_of v c)) (sound_caller (table_of v c)))
           (get_member (codes "callers") ms) p_is;
       events =
-          sound_key y (AreEvents (table_of c)) (events_in true (table_of c)) (sound_events (table_of c))
+          sound_key y (AreEvents (table_of v c)) (events_in true (table_of v c)) (sound_events (table_of v c))
           (get_member (codes "events") ms) y_is;
-    }))))))))))
+    })))))))))))
 sound_script _ draft e = cc
 
 -- ---- events, posts, scripts
@@ -189,6 +203,11 @@ complete_cooperator d c h =
           (get_member (codes "delay") h.members) h.delay,
     ) refl))
 
+complete_named_cooperator : (d : Data) (c : NamedCooperator) → IsNamedCooperator d c
+    → named_cooperator_at d ≡ Some c
+unfolding named_cooperator_at none first one two pair
+complete_named_cooperator _ _ (names_cooperator name d c h) = rw (complete_cooperator d c h) refl
+
 complete_callers : (table : List Class) (ms : Members) (callers : List (List Body)) → members_depth ms ≤ max_depth
     → (o : Option Data) → ((d : Data) → o ≡ Some d → depth d ≤ max_depth)
     → Field [] (IsList (IsList (IsBody table))) o callers
@@ -213,6 +232,7 @@ same_draft : (draft : Draft) (table : List Class) (all : Bool) → draft.script.
         classes = table;
         limit = draft.script.limit;
         cooperator = draft.script.cooperator;
+        cooperators = draft.script.cooperators;
         pools = draft.script.pools;
         bodies = draft.script.bodies;
         callers = draft.script.callers;
@@ -229,17 +249,17 @@ complete_script d draft deep h =
     let within : (key : List ℕ) (e : Data) → get_member key h.members ≡ Some e → depth e ≤ max_depth =
     (λ key e is. let below : depth e ≤ members_depth h.members = depth-get_member key h.members e is in
     omega (arith, inside, below)) in
-    let bodies : field [] (list_at (named_body_at (table_of draft.declared))) (get_member (codes "bodies") h.members)
+    let bodies : field [] (list_at (named_body_at (table_of draft.version draft.declared))) (get_member (codes "bodies") h.members)
     ≡ Some draft.script.bodies =
-    complete_named_bodies (table_of draft.declared) draft.script.bodies (get_member (codes "bodies") h.members)
+    complete_named_bodies (table_of draft.version draft.declared) draft.script.bodies (get_member (codes "bodies") h.members)
     (within (codes "bodies")) (rw h.table at h.bodies) in
-    let callers : field [] (list_at (caller_at (table_of draft.declared))) (get_member (codes "callers") h.members)
+    let callers : field [] (list_at (caller_at (table_of draft.version draft.declared))) (get_member (codes "callers") h.members)
     ≡ Some draft.script.callers =
-    complete_callers (table_of draft.declared) h.members draft.script.callers (omega (arith, inside))
+    complete_callers (table_of draft.version draft.declared) h.members draft.script.callers (omega (arith, inside))
     (get_member (codes "callers") h.members) (within (codes "callers")) (rw h.table at h.callers) in
-    let events : option_and_then (events_in true (table_of draft.declared)) (get_member (codes "events") h.members)
+    let events : option_and_then (events_in true (table_of draft.version draft.declared)) (get_member (codes "events") h.members)
     ≡ Some draft.script.events =
-    complete_key_events (table_of draft.declared) draft.script.events (get_member (codes "events") h.members)
+    complete_key_events (table_of draft.version draft.declared) draft.script.events (get_member (codes "events") h.members)
     (within (codes "events")) (rw h.table at h.events) in
     let version =
     complete_key draft.version (IsNumber 1 LAST_VERSION) (number_at 1 LAST_VERSION) (complete_number 1 LAST_VERSION)
@@ -250,6 +270,9 @@ complete_script d draft deep h =
           (get_member (codes "limit") h.members) h.limit,
       complete_field plain_cooperator draft.script.cooperator IsCooperator cooperator_at complete_cooperator
           (get_member (codes "cooperator") h.members) h.cooperator,
+      complete_field [] draft.script.cooperators (IsList IsNamedCooperator) (list_at named_cooperator_at)
+          (complete_list IsNamedCooperator named_cooperator_at complete_named_cooperator)
+          (get_member (codes "cooperators") h.members) h.cooperators,
       complete_field [] draft.script.pools (IsList IsPool) (list_at pool_at)
           (complete_list IsPool pool_at complete_pool) (get_member (codes "pools") h.members) h.pools,
       complete_field [] draft.declared (IsList IsDeclaration) (list_at declaration_at)

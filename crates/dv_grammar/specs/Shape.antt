@@ -18,13 +18,14 @@ use Rattle.dv_script.specs.declared.action.Action.{Note, List as ListOf, Gather,
 use Rattle.dv_script.specs.declared.action.Action.{Release, RunWith, Queue, Put, Get, Later, CancelCall, ResetCall}
 use Rattle.dv_script.specs.declared.action.Action.{DelayCall, Loop, StopLoop}
 use Rattle.dv_script.specs.declared.action.Action.{Cooperate, WhenDone, PauseTask, StopTask, ResumeTask, Inline, Thread}
-use Rattle.dv_script.specs.declared.action.Action.{ThreadIn, Units}
+use Rattle.dv_script.specs.declared.action.Action.{ThreadIn, Units, CooperateIn, UnitsIn, StopCooperator}
 use Rattle.dv_script.specs.declared.event.Event.{Event}
 use Rattle.dv_script.specs.declared.event.Event.TheVariants as happens
 use Rattle.dv_script.specs.declared.expected.Expected.{Expected}
 use Rattle.dv_script.specs.declared.expected.Expected.TheVariants as expected
 use Rattle.dv_script.specs.declared.script.Cooperator.{Cooperator}
 use Rattle.dv_script.specs.declared.script.NamedBody.{NamedBody}
+use Rattle.dv_script.specs.declared.script.NamedCooperator.{NamedCooperator}
 use Rattle.dv_script.specs.declared.script.NamedPool.{NamedPool}
 use Rattle.dv_script.specs.declared.limits.TheConstants.{MOST_DRAINED, MOST_PLACE, MOST_PLACES, MOST_SUM, MOST_UNITS}
 use Rattle.dv_script.specs.declared.limits.TheConstants.{MOST_WORKERS, USUAL_LIMIT}
@@ -181,6 +182,9 @@ action_of table body statement word.Inline ds = two_of text_at (list_at statemen
 action_of table body statement word.Thread ds = three_of text_at (number_at 0 MOST_DELAY) (work_at table) Thread ds
 action_of table body statement word.ThreadIn ds = thread_in_of table ds
 action_of table body statement word.Units ds = one_of (number_at 1 MOST_UNITS) Units ds
+action_of table body statement word.CooperateIn ds = three_of text_at text_at (list_at body) CooperateIn ds
+action_of table body statement word.UnitsIn ds = two_of text_at (number_at 1 MOST_UNITS) UnitsIn ds
+action_of table body statement word.StopCooperator ds = one_of text_at StopCooperator ds
 
 -- an action, whose bodies and statements are read so
 unfoldable pub action_by : List Class → (Data → Option Body) → (Data → Option Statement) → Data → Option Action
@@ -338,6 +342,12 @@ cooperator_at d = do
   delay ← get (codes "delay") d >>= number_at 1 MOST_DELAY
   Some (record { units = units; delay = delay })
 
+-- a Cooperator that is named
+unfoldable pub named_cooperator_at : Data → Option NamedCooperator
+named_cooperator_at d = do
+  ds ← as_array d
+  two_of text_at cooperator_at (λ name settings. record { name = name; settings = settings }) ds
+
 -- a pool
 unfoldable pub pool_at : Data → Option NamedPool
 pool_at d = do
@@ -361,9 +371,10 @@ script_by expands d = do
   _ ← fields_at (keys_of version) d
   limit ← field USUAL_LIMIT (number_at 0 (most_limit version)) (get (codes "limit") d)
   cooperator ← field plain_cooperator cooperator_at (get (codes "cooperator") d)
+  cooperators ← field [] (list_at named_cooperator_at) (get (codes "cooperators") d)
   pools ← field [] (list_at pool_at) (get (codes "pools") d)
   declared ← field [] (list_at declaration_at) (get (codes "classes") d)
-  table ← table_for declared
+  table ← table_for version declared
   bodies ← field [] (list_at (named_body_at table.0)) (get (codes "bodies") d)
   callers ← field [] (list_at (caller_at table.0)) (get (codes "callers") d)
   events ← get (codes "events") d >>= events_in expands table.0
@@ -375,6 +386,7 @@ script_by expands d = do
       classes = table.0;
       limit = limit;
       cooperator = cooperator;
+      cooperators = cooperators;
       pools = pools;
       bodies = bodies;
       callers = callers;

@@ -14,6 +14,7 @@ use Rattle.dv_grammar.proofs.Outlines.{outline, version_of}
 use Rattle.dv_reader.specs.declared.error.ScriptFault.{ScriptFault}
 use Rattle.dv_reader.specs.declared.error.ScriptFault.TheVariants.{TooLong, NotJson, BadVersion, BadShape, TooMany}
 use Rattle.dv_reader.specs.declared.error.ScriptFault.TheVariants.{BadName, BadClass, OutOfMemory, BadPool, BadBody}
+use Rattle.dv_reader.specs.declared.error.ScriptFault.TheVariants.{BadCooperator}
 use Rattle.dv_reader.specs.Limits.{added_to, all_nodes, is_small}
 use Rattle.dv_reader.specs.Refusal.{keeps_version}
 use Rattle.dv_reader.specs.Passes.{is_version, shape_at, Accepts, Judged}
@@ -28,7 +29,7 @@ shape_found d draft is keeps = rw (is, keeps) refl
 pub small_nodes : (d : Data) (draft : Draft) → is_small d draft ≡ true → all_nodes d ≤ most_nodes draft.version
 small_nodes d draft e =
     leb-true (all_nodes d) (most_nodes draft.version)
-    (and_parts _ _ (and_parts _ _ (and_parts _ _ (and_parts _ _ (and_parts _ _ (and_parts _ _ e).0).0).0).0).0).0
+    (and_parts _ _ (and_parts _ _ (and_parts _ _ (and_parts _ _ (and_parts _ _ (and_parts _ _ (and_parts _ _ e).0).0).0).0).0).0).0
 
 -- and its repeats add few
 small_adds : (d : Data) (draft : Draft) → is_small d draft ≡ true → nat_le (added_to d) WIDEST_NODES ≡ true
@@ -97,7 +98,7 @@ pub accepted : (d : Data) (draft : Draft) (expands : Bool) (t : ⊤) → is_vers
     → expands ≡ nat_le (added_to d) WIDEST_NODES → script_by expands d ≡ Some draft
     → Accepts d draft (Ok t) → Judged d (Ok draft.script)
 accepted d draft expands t version few is h =
-    (draft, version, shape_found d draft (whole_draft d draft expands few is h.1) h.0, refl, h.1, h.2, h.3, h.4, h.5)
+    (draft, version, shape_found d draft (whole_draft d draft expands few is h.1) h.0, refl, h.1, h.2, h.3, h.4, h.5, h.6)
 
 pub refused : (d : Data) (draft : Draft) (expands : Bool) (fault : ScriptFault) → is_version d ≡ true
     → expands ≡ nat_le (added_to d) WIDEST_NODES → script_by expands d ≡ Some draft
@@ -116,3 +117,5 @@ refused d draft expands BadPool version few is h =
     (draft, version, shape_found d draft (whole_draft d draft expands few is h.1) h.0, h.1, h.2, h.3, h.4)
 refused d draft expands BadBody version few is h =
     (draft, version, shape_found d draft (whole_draft d draft expands few is h.1) h.0, h.1, h.2, h.3, h.4, h.5)
+refused d draft expands BadCooperator version few is h =
+    (draft, version, shape_found d draft (whole_draft d draft expands few is h.1) h.0, h.1, h.2, h.3, h.4, h.5, h.6)

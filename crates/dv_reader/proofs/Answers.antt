@@ -10,6 +10,7 @@ use Rattle.dv_script.specs.declared.limits.TheConstants.{MOST_POOLS, USUAL_LIMIT
 use Rattle.dv_reader.specs.declared.error.ScriptFault.{ScriptFault}
 use Rattle.dv_reader.specs.declared.error.ScriptFault.TheVariants.{TooLong, NotJson, BadVersion, BadShape, TooMany}
 use Rattle.dv_reader.specs.declared.error.ScriptFault.TheVariants.{BadName, BadClass, OutOfMemory, BadPool, BadBody}
+use Rattle.dv_reader.specs.declared.error.ScriptFault.TheVariants.{BadCooperator}
 use Rattle.dv_forms.specs.Forms.{Field, IsNumber}
 use Rattle.dv_forms.specs.Limits.{most_limit, most_nodes}
 use Rattle.dv_forms.specs.declared.limits.TheConstants.{WIDEST_LIMIT, WIDEST_NODES}
@@ -65,6 +66,7 @@ says bytes (Ok s) h = let j = h.4 in record {
   known = j.6;
   pooled = j.7;
   bodied = j.8;
+  scheduled = j.9;
 }
 says bytes (Err fault) h = tt
 
@@ -90,6 +92,9 @@ refuses bytes (Err BadPool) h =
     let j = h.4 in (h.0, j.0, shaped bytes h.0 j.0 (document bytes (Err BadPool) h) j.1 j.2, j.3, j.4, j.5, j.6)
 refuses bytes (Err BadBody) h =
     let j = h.4 in (h.0, j.0, shaped bytes h.0 j.0 (document bytes (Err BadBody) h) j.1 j.2, j.3, j.4, j.5, j.6, j.7)
+refuses bytes (Err BadCooperator) h =
+    let j = h.4 in
+    (h.0, j.0, shaped bytes h.0 j.0 (document bytes (Err BadCooperator) h) j.1 j.2, j.3, j.4, j.5, j.6, j.7, j.8)
 
 pub few : (bytes : List ℕ) (r : Result Script ScriptFault) → Passes bytes r
     → IfOk r (λ s. length s.events ≤ WIDEST_NODES)
@@ -119,7 +124,7 @@ limited bytes (Err fault) h = tt
 small_pools : (d : Data) (draft : Draft) → is_small d draft ≡ true → length draft.script.pools ≤ MOST_POOLS
 small_pools d draft e =
     leb-true (length draft.script.pools) MOST_POOLS
-    (and_parts _ _ (and_parts _ _ (and_parts _ _ (and_parts _ _ (and_parts _ _ e).0).0).0).0).1
+    (and_parts _ _ (and_parts _ _ (and_parts _ _ (and_parts _ _ (and_parts _ _ (and_parts _ _ e).0).0).0).0).0).1
 
 pub few_pools : (bytes : List ℕ) (r : Result Script ScriptFault) → Passes bytes r
     → IfOk r (λ s. length s.pools ≤ MOST_POOLS)

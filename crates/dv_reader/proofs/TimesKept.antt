@@ -8,6 +8,7 @@ use Rattle.dv_clock.specs.declared.limits.TheConstants.{MOST_DELAY, MOST_TICKS}
 use Rattle.dv_script.specs.declared.event.Event.{Event}
 use Rattle.dv_script.specs.declared.script.Cooperator.{Cooperator}
 use Rattle.dv_script.specs.declared.script.NamedBody.{NamedBody}
+use Rattle.dv_script.specs.declared.script.NamedCooperator.{NamedCooperator}
 use Rattle.dv_value.specs.declared.classes.Class.{Class}
 use Rattle.dv_forms.specs.Forms.{Each, Field, IsList, IsNumber, Key}
 use Rattle.dv_reader.specs.Laws.{TimesAreKept}
@@ -16,6 +17,7 @@ use Rattle.dv_script.specs.declared.body.Body.{Body}
 use Rattle.dv_grammar.specs.Grammar.{plain_cooperator, IsBody, IsEvent, acts, advances, drains, expects, IsCooperator}
 use Rattle.dv_grammar.specs.Grammar.{repeated, IsListed, one_event, repeats, AreListed, no_events, more_events}
 use Rattle.dv_grammar.specs.Grammar.{AreEvents, is_interval, times_body, IsNamedBody, names_body}
+use Rattle.dv_grammar.specs.Grammar.{IsNamedCooperator, names_cooperator}
 use Rattle.dv_grammar.proofs.Actions.{interval_is, short_action, short_body}
 use Rattle.dv_reader.specs.Times.{times_event, times_named, KeepsTimes}
 
@@ -89,6 +91,17 @@ cooperator_short : (c : Cooperator) (o : Option Data) → Field plain_cooperator
 cooperator_short c None h = rw h refl
 cooperator_short c (Some d) h = delay_short c.delay (get_member (codes "delay") h.members) h.delay
 
+short_named_cooperator : (d : Data) (c : NamedCooperator) → IsNamedCooperator d c
+    → is_interval c.settings.delay ≡ true
+short_named_cooperator _ _ (names_cooperator name d c g) = cooperator_short c (Some d) g
+
+cooperators_short : (cooperators : List NamedCooperator) (o : Option Data)
+    → Field [] (IsList IsNamedCooperator) o cooperators
+    → list_all (λ c. is_interval c.settings.delay) cooperators ≡ true
+cooperators_short cooperators None h = rw h refl
+cooperators_short cooperators (Some d) h =
+    all_in IsNamedCooperator (λ c. is_interval c.settings.delay) short_named_cooperator d cooperators h
+
 pub times_are_kept : TimesAreKept
 times_are_kept bytes s h =
     let shape = h.shape.shape in
@@ -106,5 +119,8 @@ times_are_kept bytes s h =
           (get_member (codes "bodies") shape.members) shape.bodies;
       cooperator =
           cooperator_short h.draft.script.cooperator (get_member (codes "cooperator") shape.members) shape.cooperator;
+      cooperators =
+          cooperators_short h.draft.script.cooperators (get_member (codes "cooperators") shape.members)
+          shape.cooperators;
       advances = omega (arith, few);
     })

@@ -10,8 +10,8 @@ use Rattle.dv_script.specs.declared.event.Event.{Event}
 use Rattle.dv_script.specs.declared.event.Event.TheVariants.{Action, Advance, Drain, Expect}
 use Rattle.dv_grammar.specs.declared.draft.Draft.{Draft}
 use Rattle.dv_script.specs.declared.body.Body.{Body}
-use Rattle.dv_script.specs.declared.limits.TheConstants.{MOST_BODIES, MOST_CALLERS, MOST_CLASSES, MOST_POOLS}
-use Rattle.dv_script.specs.declared.limits.TheConstants.{MOST_LEVELS, MOST_POSTS}
+use Rattle.dv_script.specs.declared.limits.TheConstants.{MOST_BODIES, MOST_CALLERS, MOST_CLASSES, MOST_COOPERATORS}
+use Rattle.dv_script.specs.declared.limits.TheConstants.{MOST_LEVELS, MOST_POOLS, MOST_POSTS}
 use Rattle.dv_clock.specs.declared.limits.TheConstants.{MOST_TICKS}
 use Rattle.dv_forms.specs.Limits.{most_bytes, most_nodes}
 use Rattle.dv_forms.specs.Repeat.{repeat_at}
@@ -121,6 +121,7 @@ is_small d draft =
     && nat_le (length draft.declared) MOST_CLASSES
     && nat_le (length draft.script.pools) MOST_POOLS
     && nat_le (length draft.script.bodies) MOST_BODIES
+    && nat_le (length draft.script.cooperators) MOST_COOPERATORS
     && nat_le (length draft.script.callers) MOST_CALLERS
     && list_all are_few draft.script.callers
     && nat_le (ticks_in draft.script.events) MOST_TICKS

@@ -17,7 +17,8 @@ use dv_grammar::draft::Draft;
 use dv_script::body::Body;
 use dv_script::event::Event;
 use dv_script::limits::{
-    MOST_BODIES, MOST_BYTES, MOST_CALLERS, MOST_CLASSES, MOST_LEVELS, MOST_POOLS, MOST_POSTS,
+    MOST_BODIES, MOST_BYTES, MOST_CALLERS, MOST_CLASSES, MOST_COOPERATORS, MOST_LEVELS, MOST_POOLS,
+    MOST_POSTS,
 };
 use dv_value::items::Items;
 use serde_json::{Map, Value as Json};
@@ -239,8 +240,8 @@ fn all_are_few(callers: &[Items<Body>]) -> bool
     callers.iter().all(are_few)
 }
 
-/// Whether a script of this JSON value has few enough nodes, classes, pools, bodies, callers, posts
-/// and ticks.
+/// Whether a script of this JSON value has few enough nodes, classes, pools, bodies, Cooperators, callers,
+/// posts and ticks.
 pub fn is_small(json: &Json, draft: &Draft) -> bool
     ensures { result ≡ is_small (view json.now) draft.now }
 {
@@ -248,6 +249,7 @@ pub fn is_small(json: &Json, draft: &Draft) -> bool
         && draft.declared.as_slice().len() <= MOST_CLASSES
         && draft.script.pools.as_slice().len() <= MOST_POOLS
         && draft.script.bodies.as_slice().len() <= MOST_BODIES
+        && draft.script.cooperators.as_slice().len() <= MOST_COOPERATORS
         && draft.script.callers.as_slice().len() <= MOST_CALLERS as usize
         && all_are_few(draft.script.callers.as_slice())
         && has_few_ticks(draft.script.events.as_slice())

@@ -11,8 +11,8 @@ use Rattle.dv_value.specs.declared.classes.Class.{Class}
 use Rattle.dv_script.specs.declared.body.Body.{Body}
 use Rattle.dv_script.specs.declared.action.Action.{Action}
 use Rattle.dv_script.specs.declared.event.Event.{Event}
-use Rattle.dv_script.specs.declared.limits.TheConstants.{MOST_BODIES, MOST_CALLERS, MOST_CLASSES, MOST_POOLS}
-use Rattle.dv_script.specs.declared.limits.TheConstants.{MOST_LEVELS, MOST_POSTS}
+use Rattle.dv_script.specs.declared.limits.TheConstants.{MOST_BODIES, MOST_CALLERS, MOST_CLASSES, MOST_COOPERATORS}
+use Rattle.dv_script.specs.declared.limits.TheConstants.{MOST_LEVELS, MOST_POOLS, MOST_POSTS}
 use Rattle.dv_clock.specs.declared.limits.TheConstants.{MOST_TICKS}
 use Rattle.dv_forms.specs.Forms.{Each, IsList, Field, Key}
 use Rattle.dv_grammar.specs.declared.draft.Draft.{Draft}
@@ -186,6 +186,7 @@ pub record IsFew (d : Data) : Type 0 where
   pub classes : count_in (codes "classes") d ≤ MOST_CLASSES
   pub pools : count_in (codes "pools") d ≤ MOST_POOLS
   pub bodies : count_in (codes "bodies") d ≤ MOST_BODIES
+  pub cooperators : count_in (codes "cooperators") d ≤ MOST_COOPERATORS
   pub callers : count_in (codes "callers") d ≤ MOST_CALLERS
   pub posts : (n : ℕ) → posts_of n d ≤ MOST_POSTS
   pub ticks : ticks_in d ≤ MOST_TICKS
@@ -203,6 +204,8 @@ few_small d draft deep g few =
     omega (arith, few.pools, of_key (codes "pools"), field_count _ _ _ g.pools) in
     let bodies : length draft.script.bodies ≤ MOST_BODIES =
     omega (arith, few.bodies, of_key (codes "bodies"), field_count _ _ _ g.bodies) in
+    let cooperators : length draft.script.cooperators ≤ MOST_COOPERATORS =
+    omega (arith, few.cooperators, of_key (codes "cooperators"), field_count _ _ _ g.cooperators) in
     let callers : length draft.script.callers ≤ MOST_CALLERS =
     omega (arith, few.callers, of_key (codes "callers"), field_count _ _ _ g.callers) in
     let posts : list_all are_few draft.script.callers ≡ true =
@@ -213,5 +216,5 @@ few_small d draft deep g few =
     let ticks : draft_ticks draft.script.events ≤ MOST_TICKS = omega (arith, few.ticks, sums) in
     let few_nodes : all_nodes d ≤ most_nodes draft.version =
     subst (λ (v : ℕ). all_nodes d ≤ most_nodes v) (same_version d draft g) few.nodes in
-    both (both (both (both (both (both (le-leb _ _ few_nodes) (le-leb _ _ classes)) (le-leb _ _ pools))
-    (le-leb _ _ bodies)) (le-leb _ _ callers)) posts) (le-leb _ _ ticks)
+    both (both (both (both (both (both (both (le-leb _ _ few_nodes) (le-leb _ _ classes)) (le-leb _ _ pools))
+    (le-leb _ _ bodies)) (le-leb _ _ cooperators)) (le-leb _ _ callers)) posts) (le-leb _ _ ticks)

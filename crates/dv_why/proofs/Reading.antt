@@ -27,13 +27,14 @@ use Rattle.dv_script.specs.declared.action.Action.{Note, List as ListOf, Gather,
 use Rattle.dv_script.specs.declared.action.Action.{Release, RunWith, Queue, Put, Get, Later, CancelCall, ResetCall}
 use Rattle.dv_script.specs.declared.action.Action.{DelayCall, Loop, StopLoop}
 use Rattle.dv_script.specs.declared.action.Action.{Cooperate, WhenDone, PauseTask, StopTask, ResumeTask, Inline, Thread}
-use Rattle.dv_script.specs.declared.action.Action.{ThreadIn, Units}
+use Rattle.dv_script.specs.declared.action.Action.{ThreadIn, Units, CooperateIn, UnitsIn, StopCooperator}
 use Rattle.dv_script.specs.declared.event.Event.{Event}
 use Rattle.dv_script.specs.declared.event.Event.TheVariants as happens
 use Rattle.dv_script.specs.declared.expected.Expected.{Expected}
 use Rattle.dv_script.specs.declared.expected.Expected.TheVariants as expected
 use Rattle.dv_script.specs.declared.script.Cooperator.{Cooperator}
 use Rattle.dv_script.specs.declared.script.NamedBody.{NamedBody}
+use Rattle.dv_script.specs.declared.script.NamedCooperator.{NamedCooperator}
 use Rattle.dv_script.specs.declared.script.NamedPool.{NamedPool}
 use Rattle.dv_script.specs.declared.limits.TheConstants.{MOST_DRAINED, MOST_PLACE, MOST_PLACES, MOST_SUM, MOST_UNITS}
 use Rattle.dv_script.specs.declared.limits.TheConstants.{MOST_WORKERS, USUAL_LIMIT}
@@ -55,7 +56,7 @@ use Rattle.dv_grammar.specs.Grammar.{gather, maybe, lock, semaphore, acquire, re
 use Rattle.dv_grammar.specs.Grammar.{cancel_call, reset_call, delay_call, loop, stop_loop, cooperate, when_done}
 use Rattle.dv_grammar.specs.Grammar.{pause_task, stop_task}
 use Rattle.dv_grammar.specs.Grammar.{resume_task, inline, thread, thread_in, units as units_rule, AreActions}
-use Rattle.dv_grammar.specs.Grammar.{no_actions, more_actions, IsDo}
+use Rattle.dv_grammar.specs.Grammar.{no_actions, more_actions, IsDo, cooperate_in, units_in, stop_cooperator}
 use Rattle.dv_grammar.specs.Grammar.{does_nothing, does, IsBody, body, body_by_name, running, AreBodies, no_bodies}
 use Rattle.dv_grammar.specs.Grammar.{more_bodies, IsStatement}
 use Rattle.dv_grammar.specs.Grammar.{performs, awaits, tries, finishes, raises_again, takes_caught, leaves}
@@ -65,9 +66,10 @@ use Rattle.dv_grammar.specs.Grammar.{acts, advances, drains, expects, IsDeclarat
 use Rattle.dv_grammar.specs.Grammar.{repeated, IsListed, one_event, repeats, AreListed, no_events, more_events}
 use Rattle.dv_grammar.specs.Grammar.{AreEvents}
 use Rattle.dv_forms.specs.declared.limits.TheConstants.{MOST_TIMES}
-use Rattle.dv_grammar.specs.Grammar.{IsCooperator, IsScript, IsBound, IsNamedBody, names_body}
+use Rattle.dv_grammar.specs.Grammar.{IsCooperator, IsScript, IsBound, IsNamedBody, names_body, IsNamedCooperator}
+use Rattle.dv_grammar.specs.Grammar.{names_cooperator}
 use Rattle.dv_grammar.proofs.WordsLemmas.{◌&◌}
-use Rattle.dv_forms.specs.declared.versions.TheConstants.{BODIES_SINCE, COMMENTS_SINCE, LAST_VERSION}
+use Rattle.dv_forms.specs.declared.versions.TheConstants.{BODIES_SINCE, COMMENTS_SINCE, COOPERATORS_SINCE, LAST_VERSION}
 use Rattle.dv_forms.specs.declared.want.Want.{Want}
 use Rattle.dv_forms.specs.declared.want.Want.TheVariants as want
 use Rattle.dv_forms.specs.declared.want.Leaf.TheVariants as leaf
@@ -78,7 +80,8 @@ use Rattle.dv_forms.specs.declared.want.Item.{Item}
 use Rattle.dv_forms.specs.declared.want.Item.TheVariants as item_of
 use Rattle.dv_why.specs.declared.question.Question.TheVariants as question
 use Rattle.dv_forms.specs.declared.want.Object.TheVariants as object
-use Rattle.dv_forms.specs.Wants.{a_deferred, a_class, a_text, a_comment, a_body, item_want, key_want, keys_in}
+use Rattle.dv_forms.specs.Wants.{a_deferred, a_class, a_cooperator, a_text, a_comment, a_body, item_want, key_want}
+use Rattle.dv_forms.specs.Wants.{keys_in}
 use Rattle.dv_forms.specs.Words.{own_forms, wants_in}
 use Rattle.dv_why.specs.Places.{nth}
 use Rattle.dv_questions.specs.Asking.{count}
@@ -393,7 +396,7 @@ each_script_key v low false true one two =
     simp (one, two, early) (refl, (refl, (refl, (refl, (refl, (refl, (refl, (refl, tt))))))))
 each_script_key v low false false one two =
     let late : nat_lt v BODIES_SINCE ≡ false = since_third v low one two in
-    simp (one, two, late) (refl, (refl, (refl, (refl, (refl, (refl, (refl, (refl, (refl, tt)))))))))
+    simp (one, two, late) (refl, (refl, (refl, (refl, (refl, (refl, (refl, (refl, (refl, (refl, tt))))))))))
 
 script_only : (v : ℕ) → 1 ≤ v → (ms : Members) → AllSuit (question.Shape v) (want.Keyed (keyed.Script v)) (object ms)
     → is_keyed_by (keys_of v) ms ≡ true
@@ -447,6 +450,10 @@ IsActionRead v n table word wants =
 -- a text
 abbrev IsTextAt : ℕ → Want → Type 0
 IsTextAt v w = (d : Data) → fits v w d ≡ true → is_some (as_str d) ≡ true
+
+-- the name of a Cooperator that is looked up is a text
+cooperator_text : (v : ℕ) (d : Data) → fits v a_cooperator d ≡ true → (x : List ℕ) × (d ≡ string x)
+cooperator_text v d h = text_of d (and_parts (nat_le COOPERATORS_SINCE v) (is_some (as_str d)) h).1
 
 one_text : {word : List ℕ} (v n : ℕ) (table : List Class) (w : Want) → IsTextAt v w → (make : List ℕ → Action)
     → ((x : List ℕ) → IsAction table (call word (string x ∷ [])) (make x)) → IsActionRead v n table word (w ∷ [])
@@ -584,6 +591,23 @@ actions v n table read =
     let a = one_arg v n (want.Leaf (leaf.Number 1 MOST_UNITS)) ds h in
     let k = number_fine v n 1 MOST_UNITS a.a a.fine in
     rw (a.items) (Units k.0, units_rule a.a k.0 k.1)) &
+    (λ ds h.
+    let a = three_args v n _ _ _ ds h in
+    let p = text_of a.a (fits_fine a.one) in
+    let q = cooperator_text v a.b (fits_fine a.two) in
+    let o = open_array v n item_of.Body a.c a.three in
+    let r = bodies_of table o.items (λ k e is. read.of_body e (o.each k e is)) in
+    rw (a.items, p.1, q.1, o.whole)
+    (CooperateIn p.0 q.0 r.0, cooperate_in p.0 q.0 o.items r.0 r.1)) &
+    (λ ds h.
+    let a = two_args v n _ _ ds h in
+    let p = cooperator_text v a.a (fits_fine a.one) in
+    let k = number_fine v n 1 MOST_UNITS a.b a.two in
+    rw (a.items, p.1) (UnitsIn p.0 k.0, units_in p.0 a.b k.0 k.1)) &
+    (λ ds h.
+    let a = one_arg v n _ ds h in
+    let p = cooperator_text v a.a (fits_fine a.fine) in
+    rw (a.items, p.1) (StopCooperator p.0, stop_cooperator p.0)) &
     tt
 
 action_fine : (v n : ℕ) (table : List Class) → AreRead v n table → (d : Data) → IsFine v n (want.Call call_of.Action) d
@@ -840,6 +864,16 @@ cooperator_fine v n (object ms) h =
     )
 cooperator_fine v n d h = let fit : fits v (want.Keyed keyed.Cooperator) d ≡ true = fits_fine h in cc
 
+named_cooperator_fine : (v n : ℕ) (d : Data) → IsFine v n (item_want item_of.NamedCooperator) d
+    → (c : NamedCooperator) × IsNamedCooperator d c
+named_cooperator_fine v n (array ds) h =
+    let a = pair_fine v n (want.Leaf (leaf.New object.Cooperator)) (want.Keyed keyed.Cooperator) (array ds) ds refl
+    (fits_fine h) (λ k u e wants is. same k h wants is) in
+    let t = text_of a.a (fits_fine a.one) in
+    let c = cooperator_fine v n a.b a.two in
+    rw (a.items, t.1) (record { name = t.0; settings = c.0 }, names_cooperator t.0 a.b c.0 c.1)
+named_cooperator_fine v n d h = let fit : fits v (item_want item_of.NamedCooperator) d ≡ true = fits_fine h in cc
+
 cooperator_field : (v n : ℕ) (o : Option Data) → ((e : Data) → o ≡ Some e → IsFine v n (want.Keyed keyed.Cooperator) e)
     → (c : Cooperator) × Field plain_cooperator IsCooperator o c
 cooperator_field v n None h = (plain_cooperator, refl)
@@ -879,6 +913,17 @@ bodies_field v n table false late ms h =
     list_field v n item_of.NamedBody (IsNamedBody table) (named_body_fine v n table) (get_member (codes "bodies") ms)
     (λ e is. value_fine (codes "bodies") h (rw late refl) is)
 
+cooperators_field : (v n : ℕ) (b : Bool) → nat_lt v COOPERATORS_SINCE ≡ b → (ms : Members)
+    → IsFine v n (want.Keyed (keyed.Script v)) (object ms)
+    → (xs : List NamedCooperator) × Field [] (IsList IsNamedCooperator) (get_member (codes "cooperators") ms) xs
+cooperators_field v n true early ms h =
+    let none : get_member (codes "cooperators") ms ≡ None = no_value (get_member (codes "cooperators") ms)
+    (λ e is. not_other v (keyed.Script v) ms h.suit (codes "cooperators") e is (rw early refl)) in
+    rw none ([], refl)
+cooperators_field v n false late ms h =
+    list_field v n item_of.NamedCooperator IsNamedCooperator (named_cooperator_fine v n)
+    (get_member (codes "cooperators") ms) (λ e is. value_fine (codes "cooperators") h (rw late refl) is)
+
 -- a document of which each part fits is a script
 pub script_fine : (d : Data) → AllSuit (question.Shape (version_in d)) (script_in d) d
     → (draft : Draft) × IsScript d draft
@@ -895,13 +940,14 @@ script_fine (object ms) suit =
     let same_version : v ≡ version.0 = version_of (get_member (codes "version") ms) version.0 version.1 in
     let classes = list_field v n item_of.Declaration IsDeclaration (declaration_fine v n)
     (get_member (codes "classes") ms) (λ e is. value_fine (codes "classes") h refl is) in
-    let table = table_of classes.0 in
+    let table = table_of version.0 classes.0 in
     let limit = number_field v n USUAL_LIMIT 0 (most_limit v) (get_member (codes "limit") ms)
     (λ e is. value_fine (codes "limit") h refl is) in
     let cooperator =
     cooperator_field v n (get_member (codes "cooperator") ms) (λ e is. value_fine (codes "cooperator") h refl is) in
     let named = pools_field v n (nat_eq v 1) refl ms h in
     let bodied = bodies_field v n table (nat_lt v BODIES_SINCE) refl ms h in
+    let scheduled = cooperators_field v n (nat_lt v COOPERATORS_SINCE) refl ms h in
     let callers = list_field v n item_of.Caller (IsList (IsBody table)) (list_of v n item_of.Body (IsBody table)
     (are_read v n table).of_body) (get_member (codes "callers") ms) (λ e is. value_fine (codes "callers") h refl is) in
     let events = key_events v n table
@@ -909,13 +955,14 @@ script_fine (object ms) suit =
       record {
         version = version.0;
         declared = classes.0;
-        all_declared = all_declared classes.0;
+        all_declared = all_declared version.0 classes.0;
         script = record {
           classes = table;
           limit = limit.0;
           cooperator = cooperator.0;
           pools = named.0;
           bodies = bodied.0;
+          cooperators = scheduled.0;
           callers = callers.0;
           events = events.0;
         };
@@ -935,6 +982,7 @@ script_fine (object ms) suit =
         cooperator = cooperator.1;
         pools = named.1;
         bodies = bodied.1;
+        cooperators = scheduled.1;
         callers = callers.1;
         events = events.1;
       },

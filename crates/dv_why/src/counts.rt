@@ -25,7 +25,7 @@ use dv_forms::repeat::repeat_of;
 use dv_forms::want::Item;
 use dv_reader::limits::has_few_nodes;
 use dv_script::limits::{
-    MOST_BODIES, MOST_CALLERS, MOST_CLASSES, MOST_LEVELS, MOST_POOLS, MOST_POSTS,
+    MOST_BODIES, MOST_CALLERS, MOST_CLASSES, MOST_COOPERATORS, MOST_LEVELS, MOST_POOLS, MOST_POSTS,
 };
 use serde_json::Value as Json;
 use std::alloc::{AllocError, Global};
@@ -174,6 +174,12 @@ pub fn too_many(alloc: Global, json: &Json) -> Result<(Misfit<'_>, Expected), Al
     }
     if is_long(json, "bodies", MOST_BODIES) {
         return Ok((value_of(alloc, json, "bodies")?, Expected::FewBodies));
+    }
+    if is_long(json, "cooperators", MOST_COOPERATORS) {
+        return Ok((
+            value_of(alloc, json, "cooperators")?,
+            Expected::FewCooperators,
+        ));
     }
     if is_long(json, "callers", MOST_CALLERS as usize) {
         return Ok((value_of(alloc, json, "callers")?, Expected::FewCallers));

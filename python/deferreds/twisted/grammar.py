@@ -14,6 +14,7 @@ WIDEST_BYTES = _LIMITS["bytes"]
 MOST_CLASSES = _LIMITS["classes"]
 MOST_POOLS = _LIMITS["pools"]
 MOST_BODIES = _LIMITS["bodies"]
+MOST_COOPERATORS = _LIMITS["cooperators"]
 MOST_CALLERS = _LIMITS["callers"]
 MOST_POSTS = _LIMITS["posts"]
 MOST_JOBS = _LIMITS["jobs"]
@@ -92,6 +93,7 @@ class Kind(enum.Enum):
     NEW_TASK = "a name for a task that is made"
     TASK = "a task"
     POOL = "a pool of threads, which the key `pools` declares"
+    COOPERATOR = "a Cooperator that the key `cooperators` declares"
     NAMED_BODY = "a body that the key `bodies` declares"
     VALUE = "a value"
     BODY = "a body"
@@ -136,7 +138,17 @@ FLAGS: Dict[Kind, FrozenSet[str]] = {
 #: the kinds that name an object of a kind, or make one
 MADE: FrozenSet[Kind] = frozenset(kind for kind in Kind if kind.name.startswith("NEW_"))
 FOUND: FrozenSet[Kind] = frozenset(
-    {Kind.DEFERRED, Kind.LOCK, Kind.QUEUE, Kind.CALL, Kind.LOOP, Kind.TASK, Kind.POOL, Kind.NAMED_BODY}
+    {
+        Kind.DEFERRED,
+        Kind.LOCK,
+        Kind.QUEUE,
+        Kind.CALL,
+        Kind.LOOP,
+        Kind.TASK,
+        Kind.POOL,
+        Kind.COOPERATOR,
+        Kind.NAMED_BODY,
+    }
 )
 
 Arguments = Tuple[Kind, ...]
@@ -266,6 +278,7 @@ _LEVEL_OF_KIND: Dict[Kind, str] = {
     Kind.STATEMENTS: "inline",
     Kind.WORK: "threads",
     Kind.POOL: "pools",
+    Kind.COOPERATOR: "version-3",
 }
 
 #: the level of an action whose arguments don't show it

@@ -39,6 +39,7 @@ BAD_NAME = _reason("BadName")
 BAD_CLASS = _reason("BadClass")
 BAD_POOL = _reason("BadPool")
 BAD_BODY = _reason("BadBody")
+BAD_COOPERATOR = _reason("BadCooperator")
 
 
 class Refused(Exception):
@@ -63,6 +64,10 @@ class Script:
         self.classes: List[List[str]] = root.get("classes", [])
         self.units: int = cooperator["units"]
         self.delay: int = cooperator["delay"]
+        #: the Cooperators by name, each with how many steps a tick has, and how long it is to the next
+        self.cooperators: Dict[str, Tuple[int, int]] = {
+            name: (settings["units"], settings["delay"]) for name, settings in root.get("cooperators", [])
+        }
         #: the names of the pools; no line shows how many workers one has
         self.pools: List[str] = [name for name, _ in root.get("pools", [])]
         self.bodies: Dict[str, grammar.Body] = dict(root.get("bodies", []))
@@ -80,6 +85,7 @@ def read(data: bytes, names_of_classes: Sequence[str]) -> Script:
     _refuse_classes(root, found, names_of_classes)
     _refuse_twice_or_unknown(root.get("pools", []), found.pools, BAD_POOL)
     _refuse_twice_or_unknown(root.get("bodies", []), found.bodies, BAD_BODY)
+    _refuse_twice_or_unknown(root.get("cooperators", []), found.cooperators, BAD_COOPERATOR)
     return Script(root)
 
 
@@ -186,6 +192,8 @@ class _Found:
         #: names of pools and of declared bodies that are used
         self.pools: List[str] = []
         self.bodies: List[str] = []
+        #: names of Cooperators that are used
+        self.cooperators: List[str] = []
         self.classes: List[str] = []
         self.advanced = 0
 
@@ -205,6 +213,8 @@ class _Shape:
             self._texts(pair, 2)
         if "cooperator" in root:
             self._cooperator(root["cooperator"])
+        for pair in self._array(root.get("cooperators", [])):
+            self._named_cooperator(pair)
         for pool in self._array(root.get("pools", [])):
             self._pool(pool)
         for pair in self._array(root.get("bodies", [])):
@@ -219,6 +229,12 @@ class _Shape:
         self._keys(value, {"units", "delay"}, self._comment)
         self._number(value["units"], grammar.UNITS)
         self._number(value["delay"], grammar.INTERVALS)
+
+    def _named_cooperator(self, value: Any) -> None:
+        if len(self._array(value)) != 2:
+            self._refuse(value)
+        self.found.names.append(self._text(value[0]))
+        self._cooperator(value[1])
 
     def _pool(self, value: Any) -> None:
         if len(self._array(value)) != 2:
@@ -281,6 +297,8 @@ class _Shape:
                 self.found.pools.append(value)
             if kind is Kind.NAMED_BODY:
                 self.found.bodies.append(value)
+            if kind is Kind.COOPERATOR:
+                self.found.cooperators.append(value)
         else:
             self._other(kind, value)
 
@@ -424,6 +442,7 @@ def _refuse_counts(root: Mapping[str, Any], found: _Found) -> None:
         or len(root.get("classes", [])) > grammar.MOST_CLASSES
         or len(root.get("pools", [])) > grammar.MOST_POOLS
         or len(root.get("bodies", [])) > grammar.MOST_BODIES
+        or len(root.get("cooperators", [])) > grammar.MOST_COOPERATORS
         or len(callers) > grammar.MOST_CALLERS
         or any(len(posts) > grammar.MOST_POSTS for posts in callers)
         or found.advanced > grammar.LONGEST_TIME
@@ -474,7 +493,8 @@ def _refuse_names(root: Mapping[str, Any], found: _Found) -> None:
 
 
 def _refuse_classes(root: Mapping[str, Any], found: _Found, built_in: Sequence[str]) -> None:
-    known = set(built_in)
+    since = LANGUAGE.classes_since
+    known = {name for name in built_in if since.get(name, 1) <= root["version"]}
     for name, parent in root.get("classes", []):
         if name in known or parent not in known:
             raise Refused(BAD_CLASS, name)

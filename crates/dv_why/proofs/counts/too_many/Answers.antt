@@ -1,7 +1,8 @@
 use Rattle.std.proofs.Common.{◌≡◌, true, false, codes, sym, ◌∙◌}
 use Rattle.std.proofs.lemmas.Bool.{leb-true}
 use Rattle.serde_json.specs.View.{view}
-use Rattle.dv_script.specs.declared.limits.TheConstants.{MOST_BODIES, MOST_CALLERS, MOST_CLASSES, MOST_POOLS}
+use Rattle.dv_script.specs.declared.limits.TheConstants.{MOST_BODIES, MOST_CALLERS, MOST_CLASSES, MOST_COOPERATORS}
+use Rattle.dv_script.specs.declared.limits.TheConstants.{MOST_POOLS}
 use Rattle.dv_forms.specs.Limits.{most_nodes}
 use Rattle.dv_reader.specs.Limits.{all_nodes, is_small}
 use Rattle.dv_why.specs.Counts.{count_in}
@@ -26,7 +27,10 @@ returns-clause-wrong c =
       classes = not_more MOST_CLASSES (count_in (codes "classes") d) (sym c.is_long.ensures ∙ c.if-is_long.false);
       pools = not_more MOST_POOLS (count_in (codes "pools") d) (sym c.is_long-2.ensures ∙ c.if-is_long-2.false);
       bodies = not_more MOST_BODIES (count_in (codes "bodies") d) (sym c.is_long-3.ensures ∙ c.if-is_long-3.false);
-      callers = not_more MOST_CALLERS (count_in (codes "callers") d) (sym c.is_long-4.ensures ∙ c.if-is_long-4.false);
+      cooperators =
+          not_more MOST_COOPERATORS (count_in (codes "cooperators") d)
+          (sym c.is_long-4.ensures ∙ c.if-is_long-4.false);
+      callers = not_more MOST_CALLERS (count_in (codes "callers") d) (sym c.is_long-5.ensures ∙ c.if-is_long-5.false);
       posts = c.in_ok-misfit.ensures.none c.in_default.is;
       ticks = rw c.items_of.ensures at (not_cut _ _ c.ticks_among.ensures c.if-ticks_among-gt-MOST_TICKS.false);
     }) in
