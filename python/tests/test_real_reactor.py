@@ -58,9 +58,9 @@ class RealReactor(unittest.TestCase):
     """A program that has its reactor run."""
 
     def recorded(self, name: str, by_chance: Optional[str] = None) -> Recording:
-        """Its recording, which the program reproduces. Refused for this reason, by chance, it is recorded again, at most four times."""
+        """Its recording, which the program reproduces. Refused for this reason, by chance, it is recorded again, at most twice."""
         recording = Recording(name)
-        for _ in range(4):
+        for _ in range(2):
             if by_chance is not None and by_chance in recording.said:
                 recording = Recording(name)
         self.assertEqual(recording.status, 0, recording.said)
@@ -131,9 +131,8 @@ class RealReactor(unittest.TestCase):
 
     def test_loops_that_a_slow_body_starts(self) -> None:
         recording = self.recorded("loops_of_a_slow_body", "turns or ticks ran in another order than they are due in")
-        # the slow loop's turn was scheduled before the other's that is due with it
-        turns = [line for line in recording.lines if line.startswith("turn ")]
-        self.assertEqual([line.endswith("_17") for line in turns[:4]], [False, False, True, False])
+        began = recording.events[0][3]["do"]
+        self.assertEqual([(action[0], action[3] * recording.tick) for action in began], [("loop", Fraction(1, 5)), ("loop", Fraction(2, 5))])
         self.assertIn('note "True"', recording.lines)
 
     def test_servers(self) -> None:
