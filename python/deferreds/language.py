@@ -29,7 +29,7 @@ class Word(NamedTuple):
 
 
 class Key(NamedTuple):
-    """A key of an object: of the script, of its `cooperator`, of a body, or of a failure in a value."""
+    """A key of an object: of the script, of a cooperator, of a body, or of a failure in a value."""
 
     of: str
     key: str
@@ -56,6 +56,8 @@ class Language(NamedTuple):
     lines: Tuple[Line, ...]
     #: the classes that are built in, each with its parent, parents first
     classes: Dict[str, Optional[str]]
+    #: the first version that has each of them
+    classes_since: Dict[str, int]
     #: the most that there may be of something
     limits: Dict[str, int]
     #: the same of a script of a version before this one, where it is less
@@ -105,6 +107,7 @@ def read(text: str) -> Language:
         keys=tuple(Key(**row) for row in told["keys"]),
         lines=tuple(Line(row["line"], tuple(row["parts"]), row["nesting"]) for row in told["lines"]),
         classes={row["class"]: row["parent"] for row in told["classes"]},
+        classes_since={row["class"]: row["since"] for row in told["classes"]},
         limits=told["limits"],
         smaller=told["smaller"],
         usual=told["usual"],

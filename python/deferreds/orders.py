@@ -10,6 +10,8 @@ from itertools import permutations, product
 from math import factorial, prod
 from typing import Iterator, List, NamedTuple, Sequence, Tuple
 
+from .repeats import written_out
+
 Post = Tuple[int, int]
 Order = Tuple[Tuple[Post, ...], ...]
 
@@ -28,7 +30,7 @@ def posting_of(script: object) -> Posting:
     if not isinstance(script, dict):
         raise ValueError("no script")
     counts = tuple(len(bodies) for bodies in script.get("callers", []))
-    drains = tuple(event[1] for event in script["events"] if event[0] == "drain")
+    drains = tuple(event[1] for event in written_out(script["events"]) if event[0] == "drain")
     return Posting(counts, drains)
 
 

@@ -29,6 +29,7 @@ _TITLES: Dict[str, str] = {
     "task": "the name of a task",
     "pool": "the name of a pool",
     "body": "the name of a body",
+    "cooperator": "the name of a Cooperator",
     "class": "the name of a class of failures",
 }
 

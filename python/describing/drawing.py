@@ -34,7 +34,8 @@ LEFT_OUT: Dict[str, Sequence[str]] = {"language": ("read", "FILE", "LANGUAGE")}
 
 def script() -> str:
     """The modules, as JavaScript."""
-    sources = [("language", FOLDER.parent / "language.py"), *((name, FOLDER / f"{name}.py") for name in MODULES)]
+    above = [(name, FOLDER.parent / f"{name}.py") for name in ("language", "repeats")]
+    sources = [*above, *((name, FOLDER / f"{name}.py") for name in MODULES)]
     read = [(name, path.read_text(encoding="utf-8"), LEFT_OUT.get(name, ())) for name, path in sources]
     language, *others = written(read)
     return "\n".join([language, _language(), *others, ""])
@@ -46,7 +47,7 @@ def _language() -> str:
     told = json.dumps([words, LANGUAGE.lines, LANGUAGE.limits], separators=(",", ":")).replace("</", "<\\/")
     return (
         f"$m_language.LANGUAGE = (function (told) {{ var made = $m_language; return new made.Language([], told[0].map(function (one) {{ return "
-        f"new made.Word(...one); }}), [], told[1].map(function (one) {{ return new made.Line(...one); }}), null, told[2]); }})({told});"
+        f"new made.Word(...one); }}), [], told[1].map(function (one) {{ return new made.Line(...one); }}), null, null, told[2]); }})({told});"
     )
 
 

@@ -136,8 +136,11 @@ class OfRuns(unittest.TestCase):
 
     def test_lines_that_may_be_of_several_objects(self) -> None:
         told = self.page.partition("the entry may be of any of them: ")[2].partition(".")[0]
+        made = {part["of"] for line in LANGUAGE.lines for part in line.parts if part.get("which") == "made"}
         several = {
-            line.line for line in LANGUAGE.lines if any(part.get("which") == "any" for part in line.parts)
+            line.line
+            for line in LANGUAGE.lines
+            if any(part.get("which") == "any" and part["of"] in made for part in line.parts)
         }
         self.assertEqual(set(_CODE.findall(told)), several)
 

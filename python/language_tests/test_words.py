@@ -28,6 +28,7 @@ _SAMPLES: Dict[str, Json] = {
     "leaving": ["pass"],
     "work": ["sum", 1],
     "outcome": ["unfired"],
+    "event": ["drain", 1],
 }
 
 
@@ -45,6 +46,7 @@ _FOUND: Dict[str, List[Json]] = {
     "class": ["ValueError", "Mine"],
     "pool": ["io"],
     "body": ["f"],
+    "cooperator": ["slow"],
     "deferred": ["a", "@"],
 }
 
@@ -100,11 +102,12 @@ def _misshapen(form: Form) -> List[Json]:
 _UNDECLARED: Dict[str, List[Case]] = {
     "pool": [Case("other", "BadPool")],
     "body": [Case("other", "BadBody")],
+    "cooperator": [Case("other", "BadCooperator")],
 }
 
 
 def _misnamed(form: Form) -> List[Case]:
-    """Names in another form, and classes, pools and bodies that aren't there."""
+    """Names in another form, and classes, pools, bodies and Cooperators that aren't there."""
     kind, of = form["type"], form.get("of")
     long = "n" * (LANGUAGE.limits["name"] + 1)
     bad = [Case(name, "BadName") for name in ("", "a b", "é", "@@", "-a", long)]
@@ -190,8 +193,8 @@ _FRAMES: Dict[str, List[Callable[[Json], Dict[str, Json]]]] = {
 
 def _script(frame: Callable[[Json], Dict[str, Json]], part: Json, version: int) -> str:
     pools = {"pools": [["io", 1]]} if version > 1 else {}
-    bodies = {"bodies": [["f", {}]]} if version > 2 else {}
-    return json.dumps({"version": version, "classes": [["Mine", "ValueError"]], **pools, **bodies, **frame(part)})
+    later = {"bodies": [["f", {}]], "cooperators": [["slow", {"units": 1, "delay": 1}]]} if version > 2 else {}
+    return json.dumps({"version": version, "classes": [["Mine", "ValueError"]], **pools, **later, **frame(part)})
 
 
 class OfTheWords(unittest.TestCase):

@@ -183,6 +183,14 @@ class RealReactor(unittest.TestCase):
         self.assertTrue(changes)
         self.assertEqual({events[place + 1][0] for place in changes}, {"advance"})
 
+    def test_ticks_of_several_cooperators(self) -> None:
+        # on a loaded machine a tick may come when one of another Cooperator is due
+        recording = self.recorded("tickers", "ran in another order than they are due in")
+        script = json.loads(recording.script)
+        self.assertEqual([settings["delay"] * recording.tick for _, settings in script["cooperators"]], [Fraction(2, 100), Fraction(3, 1_000)])
+        ended = [line.split(" ")[2:] for line in recording.lines if line.startswith("end ") and "SchedulerStopped" in line]
+        self.assertEqual(ended, [["fail", "SchedulerStopped", '""']] * 2)
+
     def test_bodies_that_nest_are_told(self) -> None:
         recording = self.recorded("piece_by_piece")
         self.assertIn('"bodies":[[', recording.script)

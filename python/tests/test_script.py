@@ -48,6 +48,26 @@ class Refusals(unittest.TestCase):
                 self.assertEqual(refusal('{"version":%d,"events":[["expect","d",["unfired"]]]}' % version), number)
         self.assertEqual(refusal('{"version":3,"events":[["maybe","d",{"do":[["expect","d",["unfired"]]]}]]}'), 4)
 
+    def test_version_3_is_the_first_that_repeats_events(self) -> None:
+        for version, number in ((1, 4), (2, 4), (3, 0)):
+            with self.subTest(version):
+                self.assertEqual(refusal('{"version":%d,"events":[["repeat",2,[["note","a"]]]]}' % version), number)
+        self.assertEqual(refusal('{"version":3,"events":[["maybe","d",{"do":[["repeat",2,[]]]}]]}'), 4)
+
+    def test_what_repeats_counts_as_often_as_it_happens(self) -> None:
+        for times, number in ((249_998, 0), (249_999, 5)):
+            with self.subTest(times):
+                self.assertEqual(refusal('{"version":3,"events":[["repeat",%d,[["note","a"]]]]}' % times), number)
+        for times, number in ((1_000, 0), (1_001, 5)):
+            with self.subTest(times):
+                advance = '["advance",1000000000000]'
+                self.assertEqual(refusal('{"version":3,"events":[["repeat",%d,[%s]]]}' % (times, advance)), number)
+
+    def test_a_text_that_repeats_counts_by_its_bytes(self) -> None:
+        for size, number in ((63, 0), (64, 5)):
+            with self.subTest(size):
+                self.assertEqual(refusal('{"version":3,"events":[["repeat",249998,[["note","%s"]]]]}' % ("a" * size)), number)
+
     def test_a_long_script_says_version_3(self) -> None:
         for version, number in (("1", 1), ("2", 1), ("3", 0), ("4", 1), ("3.0", 1), ("[3]", 1)):
             with self.subTest(version):

@@ -8,7 +8,7 @@ from typing import Any, Callable, Dict, List, NamedTuple, Optional, Tuple
 
 from twisted.internet import task
 
-from deferreds.twisted.instruments.settling import MILLISECOND, Conflict, Entry, Loop, Step, settle
+from deferreds.twisted.instruments.settling import MILLISECOND, Conflict, Entry, Loop, Step, Tick, settle
 
 
 class History:
@@ -26,9 +26,9 @@ class History:
         """A job is submitted."""
         return self._make(Entry(self._made))
 
-    def tick(self) -> Entry:
-        """A tick is scheduled."""
-        return self._make(Entry(self._made, is_tick=True))
+    def tick(self, delay: float = 0, further: bool = False) -> Entry:
+        """A tick of the first Cooperator is scheduled, or of a further one."""
+        return self._make(Entry(self._made, tick=Tick(round(delay * MILLISECOND), further)))
 
     def loop(self, interval: float, at: float) -> Loop:
         """A loop starts."""
@@ -295,6 +295,28 @@ class Fixed(unittest.TestCase):
         self.history.run(call, 2.6)
         self.history.settled()
         self.assertEqual(call.due, 2_500)
+
+    def test_ticks_of_several_are_due_when_they_were_asked_for(self) -> None:
+        slow, quick = self.history.tick(20, True), self.history.tick()
+        for number in range(1, 9):
+            self.history.run(quick, 4.1 * number)
+            quick = self.history.tick()
+            if number % 5 == 0:
+                self.history.run(slow, 4.1 * number)
+                slow = self.history.tick(20, True)
+        self.history.settled()
+        self.assertEqual(slow.due - slow.at, 20_000)
+
+    def test_ticks_that_are_far_from_each_other_beside_turns(self) -> None:
+        tick, loop = self.history.tick(15), self.history.loop(10, 0)
+        turn = self.history.turn(loop, 1)
+        self.history.run(turn, 10)
+        turn = self.history.turn(loop, 2)
+        self.history.run(tick, 15)
+        tick = self.history.tick(15)
+        self.history.run(turn, 20)
+        self.history.settled()
+        self.assertEqual(tick.due - tick.at, 15_000)
 
 
 class Simulated:

@@ -92,6 +92,7 @@ waiting_keeps : (P : Clock → Type 0) (s : State Clock) (n : ℕ) (what : Due) 
 waiting_keeps P s n (kind.Call name key) h k = uncall_keeps P s n name (fits s.1 (entry.Uncall name)) h k
 waiting_keeps P s n (kind.Turn name key) h k = h
 waiting_keeps P s n kind.Tick h k = h
+waiting_keeps P s n (kind.TickIn name key) h k = h
 waiting_keeps P s n (kind.Delivery job key) h k = h
 waiting_keeps P s n (kind.Timeout d) h k = h
 
@@ -120,6 +121,7 @@ waiting_moves P s n from delay due (kind.Call name key) h k =
     let new = new_due from delay due s.0.time in moving_keeps P s n name new (fits s.1 (entry.Reset name new)) h (k new)
 waiting_moves P s n from delay due (kind.Turn name key) h k = h
 waiting_moves P s n from delay due kind.Tick h k = h
+waiting_moves P s n from delay due (kind.TickIn name key) h k = h
 waiting_moves P s n from delay due (kind.Delivery job key) h k = h
 waiting_moves P s n from delay due (kind.Timeout d) h k = h
 

@@ -151,6 +151,7 @@ abbrev pub cancel_waiting : ℕ → Due → State Clock → Cancelling
 cancel_waiting number (kind.Call name key) s = uncall number name s
 cancel_waiting number (kind.Turn name key) s = (Ok tt, s)
 cancel_waiting number kind.Tick s = (Ok tt, s)
+cancel_waiting number (kind.TickIn name key) s = (Ok tt, s)
 cancel_waiting number (kind.Delivery job key) s = (Ok tt, s)
 cancel_waiting number (kind.Timeout d) s = (Ok tt, s)
 
@@ -196,6 +197,7 @@ abbrev pub reset_waiting : ℕ → DelayFrom → ℕ → ℕ → Due → State C
 reset_waiting number from delay due (kind.Call name key) s = move_call number name (new_due from delay due s.0.time) s
 reset_waiting number from delay due (kind.Turn name key) s = (Ok tt, s)
 reset_waiting number from delay due kind.Tick s = (Ok tt, s)
+reset_waiting number from delay due (kind.TickIn name key) s = (Ok tt, s)
 reset_waiting number from delay due (kind.Delivery job key) s = (Ok tt, s)
 reset_waiting number from delay due (kind.Timeout d) s = (Ok tt, s)
 

@@ -156,7 +156,11 @@ impl Clock {
         let name = match &call.state {
             CallState::Waiting(Due::Call(name, _)) => name,
             CallState::Waiting(
-                Due::Turn(_, _) | Due::Tick | Due::Delivery(_, _) | Due::Timeout(_),
+                Due::Turn(_, _)
+                | Due::Tick
+                | Due::TickIn(_, _)
+                | Due::Delivery(_, _)
+                | Due::Timeout(_),
             ) => return Ok(()),
             CallState::Called => return Err(Fault::Refused(Over::Called)),
             CallState::Cancelled | CallState::Dropped => return Err(Fault::Refused(
@@ -193,7 +197,11 @@ impl Clock {
         let name = match &call.state {
             CallState::Waiting(Due::Call(name, _)) => name,
             CallState::Waiting(
-                Due::Turn(_, _) | Due::Tick | Due::Delivery(_, _) | Due::Timeout(_),
+                Due::Turn(_, _)
+                | Due::Tick
+                | Due::TickIn(_, _)
+                | Due::Delivery(_, _)
+                | Due::Timeout(_),
             ) => return Ok(()),
             CallState::Called => return Err(Fault::Refused(Over::Called)),
             CallState::Cancelled | CallState::Dropped => return Err(Fault::Refused(

@@ -15,8 +15,10 @@ pub enum Due {
     Call(Text, u32),
     /// The next turn of a loop (Twisted: `LoopingCall`).
     Turn(Text, u32),
-    /// The next tick of the Cooperator, of which there is one.
+    /// The next tick of the Cooperator that each script has.
     Tick,
+    /// The next tick of a Cooperator that the script names.
+    TickIn(Text, usize),
     /// The delivery of a job's result (Twisted: `deferToThread`).
     Delivery(u32, u32),
     /// The timeout of a Deferred (Twisted: `Deferred.addTimeout`).
@@ -32,6 +34,7 @@ impl Due {
             Due::Call(name, _) => Ok(Entry::LaterCall(name.copy(alloc)?, time)),
             Due::Turn(name, _) => Ok(Entry::LaterLoop(name.copy(alloc)?, time)),
             Due::Tick => Ok(Entry::LaterTick(time)),
+            Due::TickIn(name, _) => Ok(Entry::LaterTickIn(name.copy(alloc)?, time)),
             Due::Delivery(job, _) => Ok(Entry::LaterJob(*job, time)),
             Due::Timeout(id) => Ok(Entry::LaterTimeout(*id, time)),
         }
@@ -45,6 +48,7 @@ impl Due {
             Due::Call(name, _) => Ok(Entry::Call(name.copy(alloc)?)),
             Due::Turn(name, _) => Ok(Entry::Turn(name.copy(alloc)?)),
             Due::Tick => Ok(Entry::Tick),
+            Due::TickIn(name, _) => Ok(Entry::TickIn(name.copy(alloc)?)),
             Due::Delivery(job, _) => Ok(Entry::Deliver(*job)),
             Due::Timeout(id) => Ok(Entry::Timeout(*id)),
         }

@@ -4,6 +4,7 @@
 pub mod call;
 pub mod call_id;
 pub mod clock;
+pub mod cooperator_id;
 pub mod delay_from;
 pub mod due;
 pub mod error;

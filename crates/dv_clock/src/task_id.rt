@@ -2,7 +2,7 @@ ghost use Rattle.std.specs.Prelude.{◌≡◌};
 
 use std::marker::Model;
 
-/// The number of a task of the Cooperator, in order of making from 0, which contracts see as that
+/// The number of a task of any Cooperator, in order of making from 0, which contracts see as that
 /// number.
 #[derive(Clone, Copy, Debug, PartialEq, Eq)]
 pub struct TaskId(u32);

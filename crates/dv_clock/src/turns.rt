@@ -1,6 +1,7 @@
-ghost use Rattle.std.specs.Prelude.{◌≡◌, length, OnOk, OnErr};
+ghost use Rattle.std.specs.Prelude.{◌≡◌, length, IfOk, OnOk, OnErr};
 
 use crate::task_id::TaskId;
+use dv_value::items::Items;
 use std::alloc::{AllocError, Global};
 use std::collections::BTreeMap;
 use std::marker::Model;
@@ -54,6 +55,17 @@ impl Turns {
         ensures { result ≡ length self.now.tasks }
     {
         self.order.len()
+    }
+
+    /// The tasks that take turns, in order of joining.
+    pub fn to_items(&self, alloc: Global) -> Result<Items<TaskId>, AllocError>
+        ensures { IfOk result (λ tasks. tasks ≡ self.now.tasks) }
+    {
+        let mut tasks = Items::new(alloc);
+        for task in self.order.values() {
+            tasks.push(TaskId::new(*task))?;
+        }
+        Ok(tasks)
     }
 
     /// A task joins, last; one that takes turns already stays where it is. On allocation failure,

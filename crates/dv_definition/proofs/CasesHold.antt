@@ -2,7 +2,7 @@
 use Rattle.std.proofs.Common.{◌≡◌, ℕ, false, [], Option, None, Some, refl}
 use Rattle.dv_definition.specs.Cases.{TokensAreWaitedFor, FullQueuesRefuse, FiredListsStay, TurnsFollow, EndedTasksStay}
 use Rattle.dv_definition.specs.Cases.{NameErrorsAreThrown, ErrbacksAreForFailures, ManyJobsAreRefused}
-use Rattle.dv_definition.specs.Cases.{FailuresOfCallsAreTold, UnmetRunsEnd}
+use Rattle.dv_definition.specs.Cases.{FailuresOfCallsAreTold, StoppedOnesTakeNone, UnmetRunsEnd}
 use Rattle.dv_definition.specs.Rule.{Finds, Fires, run}
 use Rattle.dv_definition.specs.Words.{finished, if_unfired}
 use Rattle.dv_objects.specs.declared.performed.Performed.TheVariants.{Done}
@@ -32,6 +32,9 @@ turns_follow l w x is runs = rw (is, runs) refl
 
 pub ended_tasks_stay : EndedTasksStay
 ended_tasks_stay t e w over = rw over refl
+
+pub stopped_ones_take_none : StoppedOnesTakeNone
+stopped_ones_take_none k t w c x is stopped there unpaused = rw (is, stopped, there, unpaused) refl
 
 pub name_errors_are_thrown : NameErrorsAreThrown
 name_errors_are_thrown i name p w none = rw none refl

@@ -19,7 +19,7 @@ use Rattle.dv_objects.specs.Reached.{reached_unfired}
 use Rattle.dv_objects.specs.declared.canceller.Canceller.{Canceller}
 use Rattle.dv_objects.specs.declared.canceller.Canceller.TheVariants as canceller
 use Rattle.dv_objects.specs.declared.reached.Reached.TheVariants as reached
-use Rattle.dv_prims.specs.DeferredList.{Gather, count_missing, due, due_at_last, due_by_failure, due_when_kept}
+use Rattle.dv_prims.specs.DeferredList.{Gather, count_missing, due_at_last, due_by_failure, due_when_kept}
 use Rattle.dv_prims.specs.DeferredList.{first_failure, first_success, kept_of, succeeded, without_places}
 use Rattle.dv_script.specs.declared.body.Statement.{Statement}
 use Rattle.dv_store.specs.Cancelling.{link, walk}

@@ -3,7 +3,7 @@ use Rattle.std.specs.Prelude.{◌≡◌, ℕ, true, false, List, [], ◌∷◌, 
 use Rattle.dv_clock.specs.declared.due.Due.TheVariants as what
 use Rattle.dv_definition.specs.Definition.{add, cancel_reached, acquire, put_in, deferred_of, run_with, report}
 use Rattle.dv_definition.specs.Definition.{add_timeout, end_turn, step_ended, await, thread, settle_by, carry_out, act}
-use Rattle.dv_definition.specs.Definition.{perform_rest, run_next}
+use Rattle.dv_definition.specs.Definition.{end_task, joined_in, perform_rest, run_next}
 use Rattle.dv_definition.specs.Rule.{Fires, run, ◌after_which◌}
 use Rattle.dv_definition.specs.Scripts.{judge}
 use Rattle.dv_definition.specs.Words.{goes_through, is_over}
@@ -13,6 +13,7 @@ use Rattle.dv_frames.specs.declared.frame.Inlining.TheVariants.{Goes}
 use Rattle.dv_frames.specs.declared.frame.Purpose.TheVariants.{Named}
 use Rattle.dv_inline.specs.Position.{Position, answered}
 use Rattle.dv_journal.specs.declared.entry.Entry.TheVariants as entry
+use Rattle.dv_objects.specs.Cooperator.{Cooperator}
 use Rattle.dv_objects.specs.Pair.{Pair, errback, holding, watching, ending}
 use Rattle.dv_objects.specs.Refusals.{overflow}
 use Rattle.dv_objects.specs.Works.{is_full}
@@ -22,6 +23,8 @@ use Rattle.dv_objects.specs.declared.looping_call.LoopingCall.{LoopingCall}
 use Rattle.dv_objects.specs.declared.pair.Child.{Child}
 use Rattle.dv_objects.specs.declared.performed.Performed.TheVariants.{Done, Gave, Raised, Awaits}
 use Rattle.dv_objects.specs.declared.reached.Reached.TheVariants as reached
+use Rattle.dv_objects.specs.declared.task.Task.{Task}
+use Rattle.dv_objects.specs.declared.task.TaskEnd.TheVariants.{Halted}
 use Rattle.dv_prims.specs.Queue.{Queue, may_put}
 use Rattle.dv_prims.specs.Tokens.{Semaphore, has_free}
 use Rattle.dv_script.specs.declared.action.Action.{Action}
@@ -37,7 +40,7 @@ use Rattle.dv_value.specs.declared.failure.Failure.{Failure}
 use Rattle.dv_value.specs.declared.value.Value.{Value, Null, Fault}
 use Rattle.dv_world.specs.Expecting.{is_met, state_at}
 use Rattle.dv_world.specs.World as world
-use Rattle.dv_world.specs.World.{World, deferred_at, is_unfired, make, too_many_jobs}
+use Rattle.dv_world.specs.World.{World, cooperator_of, deferred_at, is_unfired, make, too_many_jobs}
 
 -- a Deferred that gets a pair is settled
 abbrev pub PairsAreUsed : Type 0
@@ -102,6 +105,13 @@ TurnsFollow =
 -- a task that has ended waits for nothing
 abbrev pub EndedTasksStay : Type 0
 EndedTasksStay = (t e : ℕ) (w : World) → is_over t w ≡ true → run (step_ended t (Awaits e)) w ≡ ([], Done, w)
+
+-- a task that joins a Cooperator that was stopped takes no turn there: it ends
+abbrev pub StoppedOnesTakeNone : Type 0
+StoppedOnesTakeNone =
+    (k t : ℕ) (w : World) (c : Cooperator) (x : Task) → cooperator_of k w ≡ Some c → c.stopped ≡ true
+    → slice_get w.objects.cooperators.tasks t ≡ Some x → x.pauses ≡ 0
+    → run (joined_in k t) w ≡ run (end_task t Halted) w
 
 -- where an inline body awaits a name that isn't bound, NameError is thrown there
 abbrev pub NameErrorsAreThrown : Type 0

@@ -18,7 +18,8 @@ use Rattle.dv_definition.specs.Rule.{Rule, Ends, By, If, Finds, Asks, Fires, Unp
 use Rattle.dv_definition.specs.Rule.{◌after_which◌}
 use Rattle.dv_definition.specs.Steps.{Step, Make, Name, Append, FireThenSwallow, Pause, Note, TellTurn, NewLock}
 use Rattle.dv_definition.specs.Steps.{NewSemaphore, Ask, Release, Forget, NewQueue, Withdraw, NewList, StartTimer}
-use Rattle.dv_definition.specs.Steps.{EndTimer, CallLater, NewLoop, ScheduleTurn, StopLoop, EndLoop, NewTask, AwaitTask}
+use Rattle.dv_definition.specs.Steps.{EndTimer, CallLater, NewLoop, ScheduleTurn, StopLoop, EndLoop, NewTask, NewTaskIn}
+use Rattle.dv_definition.specs.Steps.{AwaitTask, SetUnitsIn, Halt}
 use Rattle.dv_definition.specs.Steps.{PauseTask, ResumeTask, HoldTask, SetUnits, KeepTick, BeginTick, EndTick}
 use Rattle.dv_definition.specs.Steps.{AddInline, BeginBody, BeginAwait, Submit, DeliverLater, Put, PutDeferred, TakeDue}
 use Rattle.dv_definition.specs.Steps.{Moves, Cancel, PutInto, GetFrom, ChildFired, CancelCall, ResetCall, TakeStep}
@@ -28,7 +29,8 @@ use Rattle.dv_definition.specs.Words.{cancels, ends_canceller, makes_deferred, a
 use Rattle.dv_definition.specs.Words.{takes_steps, goes_on, goes_on_with_answer, awaits, tells_failure, runs_due}
 use Rattle.dv_definition.specs.Words.{next_deferred, next_list, next_loop, next_call, next_inline_body, next_job}
 use Rattle.dv_definition.specs.Words.{the_lock, the_queue, the_loop, the_task, the_job, the_body, what_is_awaited}
-use Rattle.dv_definition.specs.Words.{its_value, all_jobs, the_clock, steps_of_a_tick, all_classes, its_time_is_over}
+use Rattle.dv_definition.specs.Words.{its_value, all_jobs, the_clock, all_classes, its_time_is_over, halts, next_task}
+use Rattle.dv_definition.specs.Words.{the_cooperator, on_cooperator}
 use Rattle.dv_definition.specs.Words.{if_unfired, if_over, fire_if, fire_with}
 use Rattle.dv_definition.specs.Words.{deferred_or, on_deferred, on_all, on_lock, on_queue, on_call, on_loop, on_task}
 use Rattle.dv_frames.specs.declared.frame.Frame.{Frame}
@@ -62,7 +64,7 @@ use Rattle.dv_objects.specs.declared.performed.Performed.TheVariants.{Done, Gave
 use Rattle.dv_objects.specs.declared.reached.Reached.{Reached}
 use Rattle.dv_objects.specs.declared.reached.Reached.TheVariants as reached
 use Rattle.dv_objects.specs.declared.task.TaskEnd.{TaskEnd}
-use Rattle.dv_objects.specs.declared.task.TaskEnd.TheVariants.{Finished, Stopped, Failed}
+use Rattle.dv_objects.specs.declared.task.TaskEnd.TheVariants.{Finished, Stopped, Halted, Failed}
 use Rattle.dv_prims.specs.DeferredList.{Gather, count_missing, first_failure, first_success, kept_of, seconds_of}
 use Rattle.dv_prims.specs.DeferredList.{succeeded}
 use Rattle.dv_prims.specs.Queue.{may_put, may_get}
@@ -384,7 +386,7 @@ stop_loop l =
     the_clock λ clock.
     If (not x.running) (raise not_running) (StopLoop l next fire_if (is_scheduled x clock) x.of (Text x.name))
 
--- 14. Tasks of the Cooperator (Twisted: `Cooperator`, `CooperativeTask`).
+-- 14. Tasks of Cooperators (Twisted: `Cooperator`, `CooperativeTask`). The Cooperator that each script has is number 0.
 
 -- fires d with how a task ended, if it has ended
 abbrev pub notify : ℕ → ℕ → Rule
@@ -399,10 +401,40 @@ abbrev pub notify_all : ℕ → List ℕ → List Frame
 notify_all t [] = []
 notify_all t (d ∷ ds) = notifies d t and tells_failure and notify_all t ds
 
--- ends a task, unless it has ended, and fires the waiters for its end. `KeepTick` has the next tick scheduled while a
--- task takes turns, and no tick while none does
+-- ends a task, unless it has ended, and fires the waiters for its end. `KeepTick` has the next tick of its Cooperator
+-- scheduled while a task takes turns there, and no tick while none does
 abbrev pub end_task : ℕ → TaskEnd → Rule
-end_task t end = Asks (EndTask t end) λ waiting. KeepTick next calls (notify_all t waiting)
+end_task t end =
+    the_task t λ x.
+    Asks (EndTask t end) λ waiting. KeepTick x.of next calls (notify_all t waiting)
+
+-- ends a task with SchedulerStopped, unless it is paused or has ended
+abbrev pub halt_task : ℕ → Rule
+halt_task t = the_task t λ x. If (nat_eq x.pauses 0) (end_task t Halted) finished
+
+-- after a task has joined a Cooperator: it takes turns there; in one that was stopped it ends
+abbrev pub joined_in : ℕ → ℕ → Rule
+joined_in k t = the_cooperator k λ c. If c.stopped (halt_task t) (KeepTick k next finished)
+
+-- makes a task in a Cooperator that the script names (Twisted: `Cooperator.cooperate`)
+abbrev pub cooperate_in : ℕ → List ℕ → List ℕ → List Body → Rule
+cooperate_in k name of bodies =
+    next_task λ t.
+    NewTaskIn k name of bodies next
+    joined_in k t
+
+-- ends each of these tasks, in order, since their Cooperator was stopped
+abbrev pub halt_all : List ℕ → List Frame
+halt_all [] = []
+halt_all (t ∷ ts) = halts t and halt_all ts
+
+-- stops a Cooperator that the script names, and ends its tasks that take turns (Twisted: `Cooperator.stop`, but
+-- `task-left-by-stop`)
+abbrev pub stop_cooperator : List ℕ → ℕ → Rule
+stop_cooperator name k =
+    the_cooperator k λ c.
+    Halt k name next
+    calls (halt_all c.turns.tasks)
 
 -- makes a Deferred that is fired when a task ends, at once if it has ended (Twisted: `CooperativeTask.whenDone`)
 abbrev pub when_done : List ℕ → ℕ → Rule
@@ -412,25 +444,26 @@ when_done name t =
     AwaitTask t d next
     notify d t
 
--- raises TaskDone, TaskStopped or TaskFailed if a task has ended. Else pauses it (Twisted: `CooperativeTask.pause`)
+-- raises TaskDone, TaskStopped, TaskFailed or SchedulerStopped if a task has ended. Else pauses it (Twisted: `CooperativeTask.pause`)
 abbrev pub pause_task : ℕ → Rule
 pause_task t =
     the_task t λ x.
-    Finds x.end (PauseTask t next KeepTick next finished) λ end.
+    Finds x.end (PauseTask t next KeepTick x.of next finished) λ end.
     raise (how_ended end)
 
--- raises TaskDone, TaskStopped or TaskFailed if a task has ended. Else stops it (Twisted: `CooperativeTask.stop`)
+-- raises TaskDone, TaskStopped, TaskFailed or SchedulerStopped if a task has ended. Else stops it (Twisted: `CooperativeTask.stop`)
 abbrev pub stop_task : ℕ → Rule
 stop_task t =
     the_task t λ x.
     Finds x.end (end_task t Stopped) λ end.
     raise (how_ended end)
 
--- raises NotPaused if a task isn't paused. Else resumes it (Twisted: `CooperativeTask.resume`)
+-- raises NotPaused if a task isn't paused. Else resumes it; in a Cooperator that was stopped it ends once it isn't paused
+-- any more (Twisted: `CooperativeTask.resume`)
 abbrev pub resume_task : ℕ → Rule
 resume_task t =
     the_task t λ x.
-    If (nat_eq x.pauses 0) (raise not_paused) (ResumeTask t next KeepTick next finished)
+    If (nat_eq x.pauses 0) (raise not_paused) (ResumeTask t next joined_in x.of t)
 
 -- the Deferred that a task waited for has a value: resumes the task, unless it has ended (Twisted: `CooperativeTask`,
 -- but `hold-on-an-ended-task`)
@@ -446,7 +479,7 @@ abbrev pub after_step : ℕ → Performed → Rule
 after_step t Done = finished
 after_step t (Gave v) = fail_task t (failure_in v)
 after_step t (Raised failure) = end_task t (Failed failure)
-after_step t (Awaits e) = HoldTask t e next KeepTick next calls (adds e (resuming t))
+after_step t (Awaits e) = the_task t λ x. HoldTask t e next KeepTick x.of next calls (adds e (resuming t))
 
 -- the same, unless the task has ended meanwhile (Twisted: `CooperativeTask`, but `task-ended-twice`)
 abbrev pub step_ended : ℕ → Performed → Rule
@@ -461,20 +494,21 @@ task_in_turn t = slice_get t.tasks (if nat_lt t.position (length t.tasks) then t
 abbrev pub perform_next : ℕ → Option Body → Rule
 perform_next t next_body = Finds next_body (end_task t Finished) λ body. calls (performs None body Null and ends_step t)
 
--- ends a tick, and schedules the next if a task takes turns (Twisted: `Cooperator`, but `tick-scheduled-in-a-tick`)
-abbrev pub tick_ended : Rule
-tick_ended = EndTick next KeepTick next finished
+-- ends a tick of a Cooperator, and schedules the next if a task takes turns (Twisted: `Cooperator`, but
+-- `tick-scheduled-in-a-tick`)
+abbrev pub tick_ended : ℕ → Rule
+tick_ended k = EndTick k next KeepTick k next finished
 
 -- the task whose turn it is takes a step, and then so many more are taken; the tick ends if no task takes turns
-abbrev pub step_of_tick : ℕ → Rule
-step_of_tick left =
-    Asks TakeStep λ whose.
-    Finds whose tick_ended λ (t, next_body).
-    perform_next t next_body after_which takes_steps left
+abbrev pub step_of_tick : ℕ → ℕ → Rule
+step_of_tick k left =
+    Asks (TakeStep k) λ whose.
+    Finds whose (tick_ended k) λ (t, next_body).
+    perform_next t next_body after_which takes_steps k left
 
 -- takes so many steps, and no more once no task takes turns (Twisted: `Cooperator`, but `ticks-by-the-clock`)
-abbrev pub tick : ℕ → Rule
-tick units = If (nat_eq units 0) tick_ended (step_of_tick (units - 1))
+abbrev pub tick : ℕ → ℕ → Rule
+tick k units = If (nat_eq units 0) (tick_ended k) (step_of_tick k (units - 1))
 
 -- 15. Inline bodies (Twisted: `inlineCallbacks`).
 
@@ -683,7 +717,10 @@ carry_out itself (Action-F.DelayCall name delay) =
 carry_out itself (Action-F.Loop name of interval at_once body) = loop name of interval at_once body
 carry_out itself (Action-F.StopLoop name) = on_loop name stop_loop
 carry_out itself (Action-F.Units units) = SetUnits units next finished
-carry_out itself (Action-F.Cooperate name bodies) = NewTask name bodies next KeepTick next finished
+carry_out itself (Action-F.Cooperate name bodies) = NewTask name bodies next KeepTick 0 next finished
+carry_out itself (Action-F.CooperateIn name of bodies) = on_cooperator of λ k. cooperate_in k name of bodies
+carry_out itself (Action-F.UnitsIn name units) = on_cooperator name λ k. SetUnitsIn k name units next finished
+carry_out itself (Action-F.StopCooperator name) = on_cooperator name (stop_cooperator name)
 carry_out itself (Action-F.WhenDone name task) = on_task task λ t. when_done name t
 carry_out itself (Action-F.PauseTask name) = on_task name pause_task
 carry_out itself (Action-F.StopTask name) = on_task name stop_task
@@ -765,13 +802,22 @@ next_due w =
 abbrev pub run_call : ℕ → Rule
 run_call key = the_body key (calls runs_due) λ body. calls (performs None body Null and tells_failure and runs_due)
 
+-- begins a tick of a Cooperator, whose steps are taken
+abbrev pub begin_tick : ℕ → Rule
+begin_tick k = the_cooperator k λ c. BeginTick k next calls (takes_steps k c.units)
+
+-- takes the steps of a tick of a Cooperator, and runs what is due after it
+abbrev pub run_tick : ℕ → Rule
+run_tick k = begin_tick k after_which runs_due
+
 -- runs what is due next, and then what is due after it; logs as unhandled a failure of a call, a delivery or a time-out
 -- (Twisted: `Clock.advance`, but `error-leaves-advance`)
 abbrev pub run_next : Option Due → Rule
 run_next None = finished
 run_next (Some (what.Call name key)) = run_call key
 run_next (Some (what.Turn name key)) = take_turn key after_which runs_due
-run_next (Some what.Tick) = steps_of_a_tick λ units. BeginTick next calls (takes_steps units and runs_due)
+run_next (Some what.Tick) = run_tick 0
+run_next (Some (what.TickIn name k)) = run_tick k
 run_next (Some (what.Delivery job d)) = deliver job d after_which tells_failure and runs_due
 run_next (Some (what.Timeout d)) = calls (cancels d and tells_failure and runs_due)
 

@@ -2,7 +2,7 @@
 use Rattle.std.specs.Prelude.{ℕ, zero, suc, ◌≡◌, List, [], ◌∷◌, ◌++◌, Option, None, Some}
 use Rattle.dv_definition.specs.Definition.{settle, put_in_place, perform_rest, after_canceller, deferred_of, add}
 use Rattle.dv_definition.specs.Definition.{cancel, notify, step_ended, tick, run_due, go_on, go_with, after_awaiting}
-use Rattle.dv_definition.specs.Definition.{answer_of, act}
+use Rattle.dv_definition.specs.Definition.{answer_of, act, halt_task}
 use Rattle.dv_definition.specs.Rule.{Rule, Ends, If, Finds, Meant, say, ◌and_then◌, ◌next◌, ◌after_which◌}
 use Rattle.dv_definition.specs.Steps.{Advance, TellDrain, TellPost, TellUnhandled, TellMet, TellUnmet, TellUnbound}
 use Rattle.dv_definition.specs.Steps.{StopRun}
@@ -57,7 +57,8 @@ rule_of (frame.Cancel d) p = cancel d
 rule_of (frame.Give given) p = unless_raised p (Ends given)
 rule_of (frame.Notify d t) p = notify d t
 rule_of (frame.Stepped t) p = step_ended t p
-rule_of (frame.Tick units) p = tick units
+rule_of (frame.Halt t) p = halt_task t
+rule_of (frame.Tick k units) p = tick k units
 rule_of frame.Tell p = tell_failure p
 rule_of frame.Due p = run_due
 rule_of (frame.Inline inlining) p = inline_goes inlining p
@@ -151,5 +152,5 @@ occurrences callers (event.Drain most ∷ events) batches =
 -- a script leads, where these batches of posts are taken, from a world in which nothing is made to this one
 abbrev pub Leads : Script → List Batch → World → Type 0
 Leads script batches after =
-    let first = first_world script.classes script.bodies script.limit script.cooperator in
+    let first = first_world script.classes script.bodies script.limit script.cooperator script.cooperators in
     Returns (λ go. all_happen go (occurrences script.callers script.events batches) first) after

@@ -10,6 +10,7 @@ use Rattle.dv_frames.specs.declared.frame.Inlining.TheVariants.{Goes, Acted, Awa
 use Rattle.dv_frames.specs.declared.frame.Purpose.{Purpose}
 use Rattle.dv_inline.specs.Position.{Position}
 use Rattle.dv_journal.specs.declared.state.State.{State}
+use Rattle.dv_objects.specs.Cooperator.{Cooperator}
 use Rattle.dv_objects.specs.Names.{number_of}
 use Rattle.dv_objects.specs.Pair.{Pair}
 use Rattle.dv_objects.specs.Refusals.{unbound}
@@ -30,7 +31,8 @@ use Rattle.dv_value.specs.declared.value.Value.{Value}
 use Rattle.dv_world.specs.Ending.{ended}
 use Rattle.dv_world.specs.Expecting.{state_at}
 use Rattle.dv_world.specs.Found.{deferreds_at}
-use Rattle.dv_world.specs.World.{World, deferred_at, is_unfired, awaited_in, has_timed_out, value_of}
+use Rattle.dv_world.specs.World.{World, cooperator_at, cooperator_of, deferred_at, is_unfired, awaited_in}
+use Rattle.dv_world.specs.World.{has_timed_out, value_of}
 use Rattle.dv_world.specs.declared.found.Found.{Found}
 use Rattle.dv_world.specs.declared.found.Found.TheVariants.{All, Unbound}
 
@@ -105,9 +107,13 @@ notifies d t = frame.Notify d t ∷ []
 abbrev pub ends_step : ℕ → List Frame
 ends_step t = frame.Stepped t ∷ []
 
--- so many steps of a tick are taken (14)
-abbrev pub takes_steps : ℕ → List Frame
-takes_steps units = frame.Tick units ∷ []
+-- a task ends, since its Cooperator was stopped (14)
+abbrev pub halts : ℕ → List Frame
+halts t = frame.Halt t ∷ []
+
+-- so many steps of a tick of a Cooperator are taken (14)
+abbrev pub takes_steps : ℕ → ℕ → List Frame
+takes_steps k units = frame.Tick k units ∷ []
 
 -- an inline body goes on (20)
 abbrev pub goes_on : Inline → Position → List Frame
@@ -131,7 +137,7 @@ runs_due = frame.Due ∷ []
 
 -- 3. What a rule reads of the world.
 
--- the number that the next one gets: the next Deferred, list, loop, call or timer, inline body, job
+-- the number that the next one gets: the next Deferred, list, loop, call or timer, task, inline body, job
 abbrev pub next_deferred : (ℕ → Rule) → Rule
 next_deferred rule = By λ w. rule (length w.records)
 
@@ -143,6 +149,9 @@ next_loop rule = By λ w. rule (length w.objects.loops)
 
 abbrev pub next_call : (ℕ → Rule) → Rule
 next_call rule = By λ w. rule (length w.objects.clock.calls)
+
+abbrev pub next_task : (ℕ → Rule) → Rule
+next_task rule = By λ w. rule (length w.objects.cooperators.tasks)
 
 abbrev pub next_inline_body : (ℕ → Rule) → Rule
 next_inline_body rule = By λ w. rule (length w.objects.inlines)
@@ -161,7 +170,10 @@ abbrev pub the_loop : ℕ → (LoopingCall → Rule) → Rule
 the_loop l rule = By λ w. Finds (slice_get w.objects.loops l) finished rule
 
 abbrev pub the_task : ℕ → (Task → Rule) → Rule
-the_task t rule = By λ w. Finds (slice_get w.objects.cooperator.tasks t) finished rule
+the_task t rule = By λ w. Finds (slice_get w.objects.cooperators.tasks t) finished rule
+
+abbrev pub the_cooperator : ℕ → (Cooperator → Rule) → Rule
+the_cooperator k rule = By λ w. Finds (cooperator_of k w) finished rule
 
 abbrev pub the_job : ℕ → (Work → Rule) → Rule
 the_job job rule = By λ w. Finds (slice_get w.works job) finished rule
@@ -182,15 +194,12 @@ its_value d rule = By λ w. rule (value_of d w)
 abbrev pub its_state : ℕ → (State → Rule) → Rule
 its_state d rule = By λ w. rule (state_at d w)
 
--- all jobs that were submitted, the clock, how many steps a tick has, and the classes of failures
+-- all jobs that were submitted, the clock, and the classes of failures
 abbrev pub all_jobs : (List Work → Rule) → Rule
 all_jobs rule = By λ w. rule w.works
 
 abbrev pub the_clock : (Clock → Rule) → Rule
 the_clock rule = By λ w. rule w.objects.clock
-
-abbrev pub steps_of_a_tick : (ℕ → Rule) → Rule
-steps_of_a_tick rule = By λ w. rule w.objects.cooperator.units
 
 abbrev pub all_classes : (List Class → Rule) → Rule
 all_classes rule = By λ w. rule w.classes
@@ -205,7 +214,7 @@ if_unfired d one other = By λ w. If (is_unfired d w) one other
 
 -- whether a task has ended; true if there is no such task
 abbrev pub is_over : ℕ → World → Bool
-is_over t w = option_map_or (λ x. is_some x.end) (slice_get w.objects.cooperator.tasks t) true
+is_over t w = option_map_or (λ x. is_some x.end) (slice_get w.objects.cooperators.tasks t) true
 
 -- the first if a task has ended, and else the second
 abbrev pub if_over : ℕ → Rule → Rule → Rule
@@ -254,4 +263,8 @@ abbrev pub on_loop : List ℕ → (ℕ → Rule) → Rule
 on_loop name rule = By λ w. with_bound (number_of name w.objects.loop_names) name rule
 
 abbrev pub on_task : List ℕ → (ℕ → Rule) → Rule
-on_task name rule = By λ w. with_bound (number_of name w.objects.cooperator.task_names) name rule
+on_task name rule = By λ w. with_bound (number_of name w.objects.cooperators.task_names) name rule
+
+-- with the number of the Cooperator that the script names so
+abbrev pub on_cooperator : List ℕ → (ℕ → Rule) → Rule
+on_cooperator name rule = By λ w. with_bound (cooperator_at name w) name rule

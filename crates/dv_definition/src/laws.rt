@@ -6,7 +6,7 @@ ghost use Rattle.dv_definition.specs.Cases.{FailuresAreKept, FailuresOfCallsAreT
 ghost use Rattle.dv_definition.specs.Cases.{FiredListsStay, FiringsEndTimers, FullQueuesRefuse};
 ghost use Rattle.dv_definition.specs.Cases.{ManyJobsAreRefused, NameErrorsAreThrown, PairsAreUsed};
 ghost use Rattle.dv_definition.specs.Cases.{ReceiversComeFirst, TokensAreWaitedFor, TurnsFollow};
-ghost use Rattle.dv_definition.specs.Cases.{UnmetRunsEnd};
+ghost use Rattle.dv_definition.specs.Cases.{StoppedOnesTakeNone, UnmetRunsEnd};
 ghost use Rattle.dv_definition.specs.Conditions.{CallsComeInTurn, CancelsReach};
 ghost use Rattle.dv_definition.specs.Conditions.{DeferredsWaitWhenTheyHaveTo, EndsLeave};
 ghost use Rattle.dv_definition.specs.Conditions.{FailuresAreThrown};
@@ -51,6 +51,7 @@ pub fn rules_decide_their_cases()
     ensures timeouts { FiringsEndTimers }
     ensures loops { TurnsFollow }
     ensures tasks { EndedTasksStay }
+    ensures cooperators { StoppedOnesTakeNone }
     ensures inline { NameErrorsAreThrown }
     ensures jobs { ManyJobsAreRefused }
     ensures settling { ReceiversComeFirst }

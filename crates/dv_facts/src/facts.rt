@@ -95,9 +95,7 @@ impl<'e> Facts<'e> {
                 self.news = News::Fired(*id);
             }
             Part::NewName(name) => self.news = News::New(text_of(name)),
-            Part::Object(kind, naming, name) => {
-                self.named = Named::Object(*kind, *naming, name.as_str());
-            }
+            Part::Object(kind, naming, name) => self.add_object(*kind, *naming, name.as_str()),
             Part::Job(number) => self.named = Named::Job(*number),
             Part::Name(_) | Part::Number(_) | Part::Bound(_) => {}
             Part::Due(time) => self.due = Some(*time),
@@ -106,6 +104,14 @@ impl<'e> Facts<'e> {
             Part::Failure(failure) => self.shown = Shown::Failure(failure),
             Part::Text(text) => self.shown = Shown::Text(text),
             Part::State(state) => self.add_state(state),
+        }
+    }
+
+    /// An object is named: that of the line, unless it has one already.
+    fn add_object(&mut self, kind: ObjectKind, naming: Naming, name: &'e str) {
+        match self.named {
+            Named::Nothing => self.named = Named::Object(kind, naming, name),
+            Named::Object(_, _, _) | Named::Job(_) => {}
         }
     }
 

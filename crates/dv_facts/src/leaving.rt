@@ -5,7 +5,7 @@ ghost use Rattle.dv_facts.specs.Parts.{Adds};
 
 use crate::entries::Story;
 use crate::members::{write_bool, write_comma, write_number, write_number_or_null, write_quoted};
-use crate::names::{Object, job};
+use crate::names::{Object, cooperator, job};
 use crate::values::write_object;
 use dv_journal::deferred_id::DeferredId;
 use dv_journal::entry::Entry;
@@ -48,6 +48,7 @@ impl<'k, 'e> Known<'k, 'e> {
             Left::Failure(id) => self.write_failure(out, *id),
             Left::Call(number, due) => self.write_call(out, *number, *due),
             Left::Tick(due) => write_tick(out, *due),
+            Left::TickIn(name, due) => self.write_tick_in(out, name.as_str(), *due),
             Left::Delivery(number, id, due) => self.write_delivery(out, *number, *id, *due),
             Left::Timeout(id, due) => self.write_timeout(out, *id, *due),
             Left::Loop(left) => self.write_loop(out, left),
@@ -190,6 +191,14 @@ impl<'k, 'e> Known<'k, 'e> {
             r#","kind":"call","object":"#,
             self.at(ObjectKind::Call, number as usize),
         )?;
+        write_text(out, r#","type":"left"}"#)
+    }
+
+    fn write_tick_in(&self, out: &mut String, name: &str, due: u64) -> Result<(), AllocError>
+        ensures { OnOk result (Adds (string_bytes out.old) (string_bytes out.new)) }
+    {
+        write_number(out, r#"{"due":"#, due)?;
+        self.object(out, r#","kind":"tick","object":"#, cooperator(name))?;
         write_text(out, r#","type":"left"}"#)
     }
 

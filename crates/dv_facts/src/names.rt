@@ -78,6 +78,8 @@ pub struct Objects<'e> {
     pub tasks: Names<'e>,
     /// None is ever made: a script declares its bodies.
     pub bodies: Names<'e>,
+    /// Nor is one of these: a script declares its cooperators.
+    pub cooperators: Names<'e>,
 }
 
 fn word_of(kind: ObjectKind) -> &'static str {
@@ -88,6 +90,7 @@ fn word_of(kind: ObjectKind) -> &'static str {
         ObjectKind::Loop => "loop",
         ObjectKind::Task => "task",
         ObjectKind::Body => "body",
+        ObjectKind::Cooperator => "cooperator",
     }
 }
 
@@ -100,6 +103,7 @@ impl<'e> Objects<'e> {
             loops: Names::new(alloc),
             tasks: Names::new(alloc),
             bodies: Names::new(alloc),
+            cooperators: Names::new(alloc),
         }
     }
 
@@ -111,6 +115,7 @@ impl<'e> Objects<'e> {
             ObjectKind::Loop => &self.loops,
             ObjectKind::Task => &self.tasks,
             ObjectKind::Body => &self.bodies,
+            ObjectKind::Cooperator => &self.cooperators,
         }
     }
 
@@ -122,6 +127,7 @@ impl<'e> Objects<'e> {
             ObjectKind::Loop => self.loops.make(name),
             ObjectKind::Task => self.tasks.make(name),
             ObjectKind::Body => self.bodies.make(name),
+            ObjectKind::Cooperator => self.cooperators.make(name),
         }
     }
 
@@ -169,6 +175,11 @@ fn named_object<'e>(kind: ObjectKind, name: &'e str, number: Option<usize>) -> O
         name: Some(name),
         number,
     }
+}
+
+/// The Cooperator of a name.
+pub fn cooperator(name: &str) -> Object<'_> {
+    named_object(ObjectKind::Cooperator, name, None)
 }
 
 /// The job of a number.

@@ -3,6 +3,7 @@ pub mod Limits
 pub mod Table
 pub mod Leaving
 pub mod Parts
+pub mod Repeat
 pub mod Answer
 pub mod Wants
 pub mod Words

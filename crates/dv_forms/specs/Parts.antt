@@ -293,5 +293,5 @@ declaration_at d = do
   two_of text_at text_at (λ name parent. record { name = name; parent = parent }) ds
 
 -- the table of a script that declares these classes, and whether each of them may be declared
-unfoldable pub table_for : List Declaration → Option (List Class × Bool)
-table_for declared = Some (table_of declared, all_declared declared)
+unfoldable pub table_for : ℕ → List Declaration → Option (List Class × Bool)
+table_for version declared = Some (table_of version declared, all_declared version declared)

@@ -4,8 +4,9 @@ use Rattle.std.specs.Prelude.{if◌then◌else◌}
 use Rattle.dv_value.specs.declared.classes.Class.{Class}
 use Rattle.dv_value.specs.Classes.{find_class}
 use Rattle.dv_value.specs.Declaring.{with_class}
-use Rattle.dv_value.specs.Builtin.{builtin}
+use Rattle.dv_value.specs.Builtin.{builtin, later_builtin}
 use Rattle.dv_script.specs.declared.limits.TheConstants.{MOST_CLASSES}
+use Rattle.dv_forms.specs.declared.versions.TheConstants.{COOPERATORS_SINCE}
 use Rattle.dv_forms.specs.declared.declaration.Declaration.{Declaration}
 
 -- by what a name and a parent are found to be: the name is free, and the parent is there
@@ -32,10 +33,17 @@ abbrev pub are_declared : List Class → List Declaration → Bool
 are_declared table [] = true
 are_declared table (c ∷ cs) = can_declare table c && are_declared (with_declared table c) cs
 
--- the table of a script that declares these classes: where they are too many, it is refused and none of them counts
-abbrev pub table_of : List Declaration → List Class
-table_of cs = if nat_le (length cs) MOST_CLASSES then table_after builtin cs else builtin
+-- the classes that each script of a version has
+abbrev pub first_classes : ℕ → List Class
+first_classes version = if nat_le COOPERATORS_SINCE version then later_builtin else builtin
 
--- whether each class that a script declares may be declared, and they aren't too many
-abbrev pub all_declared : List Declaration → Bool
-all_declared cs = if nat_le (length cs) MOST_CLASSES then are_declared builtin cs else false
+-- the table of a script of a version that declares these classes: where they are too many, it is refused and none of
+-- them counts
+abbrev pub table_of : ℕ → List Declaration → List Class
+table_of version cs =
+    if nat_le (length cs) MOST_CLASSES then table_after (first_classes version) cs else first_classes version
+
+-- whether each class that a script of a version declares may be declared, and they aren't too many
+abbrev pub all_declared : ℕ → List Declaration → Bool
+all_declared version cs =
+    if nat_le (length cs) MOST_CLASSES then are_declared (first_classes version) cs else false

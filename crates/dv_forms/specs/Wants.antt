@@ -15,7 +15,7 @@ use Rattle.dv_forms.specs.declared.want.Want.TheVariants as want
 use Rattle.dv_clock.specs.declared.limits.TheConstants.{MOST_DELAY}
 use Rattle.dv_script.specs.declared.limits.TheConstants.{MOST_PLACE, MOST_UNITS, MOST_WORKERS}
 use Rattle.dv_forms.specs.Limits.{most_limit}
-use Rattle.dv_forms.specs.declared.versions.TheConstants.{BODIES_SINCE, FIRST_VERSION, LAST_VERSION}
+use Rattle.dv_forms.specs.declared.versions.TheConstants.{BODIES_SINCE, COOPERATORS_SINCE, FIRST_VERSION, LAST_VERSION}
 use Rattle.dv_forms.specs.declared.failure.TheConstants.{MOST_INDEX}
 
 -- the name of a Deferred that is looked up
@@ -25,6 +25,10 @@ a_deferred = want.Leaf (leaf.Found named.Deferred)
 -- the name of a pool that is looked up
 abbrev pub a_pool : Want
 a_pool = want.Leaf (leaf.Found named.Pool)
+
+-- the name of a Cooperator that is looked up
+abbrev pub a_cooperator : Want
+a_cooperator = want.Leaf (leaf.Found named.Cooperator)
 
 -- the name of a class that is looked up
 abbrev pub a_class : Want
@@ -58,6 +62,7 @@ item_want item.Declaration = want.Pair pair.Declaration
 item_want item.Pool = want.Pair pair.Pool
 item_want item.Place = want.Leaf (leaf.Number 0 MOST_PLACE)
 item_want item.NamedBody = want.Pair pair.Body
+item_want item.NamedCooperator = want.Pair pair.Cooperator
 
 -- what the value of a script's key is
 abbrev pub script_want : ℕ → List ℕ → Want
@@ -72,6 +77,9 @@ script_want version key =
     then (if nat_eq version 1 then want.Other (keyed.Script version) else want.Array item.Pool) else
     if bytes_eq key (codes "bodies")
     then (if nat_lt version BODIES_SINCE then want.Other (keyed.Script version) else want.Array item.NamedBody) else
+    if bytes_eq key (codes "cooperators")
+    then (if nat_lt version COOPERATORS_SINCE then want.Other (keyed.Script version)
+    else want.Array item.NamedCooperator) else
     if bytes_eq key (codes "comment") then a_comment else want.Other (keyed.Script version)
 
 -- what the value of a cooperator's key is
@@ -117,9 +125,9 @@ abbrev pub keys_in : Keyed → List (List ℕ)
 keys_in (keyed.Script version) =
     codes "version" ∷ codes "limit" ∷ codes "cooperator"
     ∷ (if nat_eq version 1 then codes "classes" ∷ codes "callers" ∷ codes "events" ∷ codes "comment" ∷ [] else
-    codes "pools" ∷ codes "classes"
-    ∷ (if nat_eq version 2 then codes "callers" ∷ codes "events" ∷ codes "comment" ∷ []
-    else codes "bodies" ∷ codes "callers" ∷ codes "events" ∷ codes "comment" ∷ []))
+    (if nat_eq version 2 then codes "pools" ∷ codes "classes" ∷ codes "callers" ∷ codes "events" ∷ codes "comment" ∷ []
+    else codes "cooperators" ∷ codes "pools" ∷ codes "classes" ∷ codes "bodies" ∷ codes "callers" ∷ codes "events"
+    ∷ codes "comment" ∷ []))
 keys_in keyed.Cooperator = codes "units" ∷ codes "delay" ∷ codes "comment" ∷ []
 keys_in (keyed.Body since) = codes "do" ∷ codes "end" ∷ codes "comment" ∷ []
 keys_in keyed.Failure = codes "fail" ∷ codes "index" ∷ codes "message" ∷ codes "sub" ∷ []
@@ -129,10 +137,15 @@ abbrev pub pair_wants : PairKind → List Want
 pair_wants pair.Declaration = want.Leaf (leaf.New named.Class) ∷ a_text ∷ []
 pair_wants pair.Pool = want.Leaf (leaf.New named.Pool) ∷ want.Leaf (leaf.Number 0 MOST_WORKERS) ∷ []
 pair_wants pair.Body = want.Leaf (leaf.New named.Body) ∷ a_body ∷ []
+pair_wants pair.Cooperator = want.Leaf (leaf.New named.Cooperator) ∷ want.Keyed keyed.Cooperator ∷ []
 
 -- the callers of a script
 abbrev pub all_callers : Want
 all_callers = want.Array item.Caller
+
+-- the Cooperators that it names
+abbrev pub all_cooperators : Want
+all_cooperators = want.Array item.NamedCooperator
 
 -- its pools
 abbrev pub all_pools : Want

@@ -8,6 +8,7 @@ pub mod failure;
 pub mod leaf;
 pub mod leaving;
 pub mod limits;
+pub mod repeat;
 pub mod shape_fault;
 pub mod table;
 pub mod value;

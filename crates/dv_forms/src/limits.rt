@@ -15,6 +15,10 @@ pub const WIDEST_NODES: u64 = 1_000_000;
 /// The most that a script of any version may let its journal weigh.
 pub const WIDEST_LIMIT: u64 = 10_000_000;
 
+/// How often a repeat has its events happen, at most: no oftener may a list of one event, by the
+/// nodes that this adds.
+pub const MOST_TIMES: u64 = 250_000;
+
 /// The most bytes of a script of this version.
 pub fn most_bytes(version: u32) -> usize
     ensures { result ≡ most_bytes version }

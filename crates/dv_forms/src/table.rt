@@ -1,19 +1,20 @@
-ghost use Rattle.std.specs.Prelude.{◌≡◌, ◌+◌, ◌<◌, ◌^◌, [], length, Some, option_map, OnOk};
+ghost use Rattle.std.specs.Prelude.{◌≡◌, ◌+◌, ◌<◌, ◌^◌, [], length, Some, option_map, IfOk, OnOk};
 ghost use Rattle.serde_json.specs.View.{view, items_view};
 ghost use Rattle.dv_forms.specs.Answer.{Reads};
 ghost use Rattle.dv_forms.specs.Parts.{declaration_at, each, list_at, field, table_for};
-ghost use Rattle.dv_forms.specs.Table.{can_declare, with_declared};
+ghost use Rattle.dv_forms.specs.Table.{can_declare, first_classes, with_declared};
 
 use crate::arguments::two_texts;
 use crate::declaration::Declaration;
 use crate::leaf::array;
 use crate::shape_fault::ShapeFault;
+use crate::versions::COOPERATORS_SINCE;
 use dv_script::limits::MOST_CLASSES;
 use dv_value::class_fault::ClassFault;
 use dv_value::classes::Classes;
 use dv_value::items::Items;
 use serde_json::Value as Json;
-use std::alloc::Global;
+use std::alloc::{AllocError, Global};
 
 /// The classes that a script declares, which it may leave out.
 pub fn declarations(alloc: Global, json: Option<&Json>) -> Result<Items<Declaration>, ShapeFault>
@@ -44,12 +45,27 @@ fn declaration(alloc: Global, json: &Json) -> Result<Declaration, ShapeFault>
     Ok(Declaration { name, parent })
 }
 
-/// The table of a script that declares these classes, and whether each of them may be declared.
-#[tactic(auto, unfolding(crate::specs::Parts::table_for, dv_value::specs::Builtin::builtin))]
-pub fn table(alloc: Global, declared: &[Declaration]) -> Result<(Classes, bool), ShapeFault>
-    ensures { Reads result (table_for declared.now) }
+/// The classes that each script of this version has.
+pub fn first_classes(alloc: Global, version: u32) -> Result<Classes, AllocError>
+    ensures { IfOk result (λ table. table ≡ first_classes version) }
 {
-    let mut classes = Classes::builtin(alloc)?;
+    if COOPERATORS_SINCE <= version {
+        Classes::later_builtin(alloc)
+    } else {
+        Classes::builtin(alloc)
+    }
+}
+
+/// The table of a script of this version that declares these classes, and whether each of them may be declared.
+#[tactic(auto, unfolding(crate::specs::Parts::table_for, dv_value::specs::Builtin::builtin))]
+pub fn table(
+    alloc: Global,
+    version: u32,
+    declared: &[Declaration],
+) -> Result<(Classes, bool), ShapeFault>
+    ensures { Reads result (table_for version declared.now) }
+{
+    let mut classes = first_classes(alloc, version)?;
     if declared.len() > MOST_CLASSES {
         return Ok((classes, false));
     }

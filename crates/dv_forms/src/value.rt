@@ -37,7 +37,7 @@ fn member(alloc: Global, classes: &Classes, json: &Json) -> Result<Value, ShapeF
             None => Err(ShapeFault::BadShape),
         },
         Json::String(text) => Ok(Value::Text(Text::of(alloc, text.as_str())?)),
-        Json::Array(items) => Ok(Value::List(members(alloc, classes, items.as_slice())?)),
+        Json::Array(items) => Ok(Value::list(alloc, members(alloc, classes, items.as_slice())?)?),
         Json::Object(_) => fault(alloc, classes, json),
     }
 }

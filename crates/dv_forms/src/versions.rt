@@ -15,6 +15,10 @@ pub const WIDE_SINCE: u32 = 3;
 /// The first version in which a script may name bodies.
 pub const BODIES_SINCE: u32 = 3;
 
+/// The first version in which a script may name Cooperators, and has the class of what a stopped
+/// one ends its tasks with.
+pub const COOPERATORS_SINCE: u32 = 3;
+
 /// The first version in which a time-out may have a body of its own.
 pub const TIMEOUTS_SINCE: u32 = 3;
 

@@ -7,7 +7,7 @@ ghost use Rattle.dv_forms.specs.Wants.{body_want, failure_want, member_want, pai
 
 use crate::failure::MOST_INDEX;
 use crate::limits::most_limit;
-use crate::versions::{BODIES_SINCE, FIRST_VERSION, LAST_VERSION};
+use crate::versions::{BODIES_SINCE, COOPERATORS_SINCE, FIRST_VERSION, LAST_VERSION};
 use dv_clock::limits::MOST_DELAY;
 use dv_script::limits::{MOST_PLACE, MOST_UNITS, MOST_WORKERS};
 use serde_json::Value as Json;
@@ -27,6 +27,8 @@ pub enum Object {
     Class,
     /// A body that the script declares.
     Body,
+    /// A Cooperator that the script declares.
+    Cooperator,
 }
 
 /// What stands at a place, where nothing is looked for in it.
@@ -72,6 +74,8 @@ pub enum PairKind {
     Pool,
     /// A name, and the body that it names.
     Body,
+    /// A name, and the Cooperator that it names.
+    Cooperator,
 }
 
 /// What an object may be.
@@ -104,6 +108,7 @@ pub enum Item {
     /// A place in a list, from 0.
     Place,
     NamedBody,
+    NamedCooperator,
 }
 
 /// What a place asks for.
@@ -141,6 +146,7 @@ impl Item {
             Item::Pool => Want::Pair(PairKind::Pool),
             Item::Place => Want::Leaf(Leaf::Number(0, MOST_PLACE as u64)),
             Item::NamedBody => Want::Pair(PairKind::Body),
+            Item::NamedCooperator => Want::Pair(PairKind::Cooperator),
         }
     }
 }
@@ -162,6 +168,10 @@ impl PairKind {
             PairKind::Body => &[
                 Want::Leaf(Leaf::New(Object::Body)),
                 Want::Keyed(Keyed::Body(FIRST_VERSION)),
+            ],
+            PairKind::Cooperator => &[
+                Want::Leaf(Leaf::New(Object::Cooperator)),
+                Want::Keyed(Keyed::Cooperator),
             ],
         }
     }
@@ -186,6 +196,11 @@ fn script_want(version: u32, key: &str) -> Want
             Want::Other(Keyed::Script(version))
         } else {
             Want::Array(Item::NamedBody)
+        },
+        "cooperators" => if version < COOPERATORS_SINCE {
+            Want::Other(Keyed::Script(version))
+        } else {
+            Want::Array(Item::NamedCooperator)
         },
         "comment" => Want::Leaf(Leaf::Comment),
         _ => Want::Other(Keyed::Script(version)),
@@ -279,6 +294,7 @@ impl Keyed {
                 "version",
                 "limit",
                 "cooperator",
+                "cooperators",
                 "pools",
                 "classes",
                 "bodies",

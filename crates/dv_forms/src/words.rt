@@ -7,7 +7,8 @@ ghost use Rattle.dv_forms.specs.Words.{may_stand, narrower, outcome_word, own_fo
 ghost use Rattle.dv_forms.specs.Words.{statement_word};
 ghost use Rattle.dv_forms.specs.Words.{wants_in, wants_of, work_word};
 
-use crate::versions::{FIRST_VERSION, TIMEOUTS_SINCE};
+use crate::limits::MOST_TIMES;
+use crate::versions::{COOPERATORS_SINCE, FIRST_VERSION, TIMEOUTS_SINCE};
 use crate::want::{CallKind, Item, Keyed, Leaf, Object, Want};
 use dv_clock::limits::{MOST_DELAY, MOST_TICKS};
 use dv_script::limits::{MOST_DRAINED, MOST_PLACES, MOST_SUM, MOST_UNITS};
@@ -54,6 +55,9 @@ pub enum ActionWord {
     Thread,
     ThreadIn,
     Units,
+    CooperateIn,
+    UnitsIn,
+    StopCooperator,
 }
 
 /// The word of an event that is no action.
@@ -62,6 +66,7 @@ pub enum EventWord {
     Advance,
     Drain,
     Expect,
+    Repeat,
 }
 
 /// The word of a statement.
@@ -137,6 +142,8 @@ const TASK: Want = Want::Leaf(Leaf::Found(Object::Task));
 
 const POOL: Want = Want::Leaf(Leaf::Found(Object::Pool));
 
+const COOPERATOR: Want = Want::Leaf(Leaf::Found(Object::Cooperator));
+
 const CLASS: Want = Want::Leaf(Leaf::Found(Object::Class));
 
 const TEXT: Want = Want::Leaf(Leaf::Text);
@@ -168,7 +175,7 @@ const STATEMENTS: Want = Want::Array(Item::Statement);
 const WORK: Want = Want::Call(CallKind::Work);
 
 /// The forms of the actions.
-pub const ACTION_FORMS: [Form<ActionWord>; 41] = [
+pub const ACTION_FORMS: [Form<ActionWord>; 44] = [
     (
         ActionWord::Deferred,
         "deferred",
@@ -438,10 +445,31 @@ pub const ACTION_FORMS: [Form<ActionWord>; 41] = [
         "[\"units\",N]",
         3,
     ),
+    (
+        ActionWord::CooperateIn,
+        "cooperateIn",
+        &[NEW_TASK, COOPERATOR, BODIES],
+        "[\"cooperateIn\",T,W,[BODY..]]",
+        COOPERATORS_SINCE,
+    ),
+    (
+        ActionWord::UnitsIn,
+        "unitsIn",
+        &[COOPERATOR, Want::Leaf(Leaf::Number(1, MOST_UNITS as u64))],
+        "[\"unitsIn\",W,N]",
+        COOPERATORS_SINCE,
+    ),
+    (
+        ActionWord::StopCooperator,
+        "stopCooperator",
+        &[COOPERATOR],
+        "[\"stopCooperator\",W]",
+        COOPERATORS_SINCE,
+    ),
 ];
 
 /// The forms of the events that are no actions.
-pub const EVENT_FORMS: [Form<EventWord>; 3] = [
+pub const EVENT_FORMS: [Form<EventWord>; 4] = [
     (
         EventWord::Advance,
         "advance",
@@ -461,6 +489,16 @@ pub const EVENT_FORMS: [Form<EventWord>; 3] = [
         "expect",
         &[DEFERRED, Want::Call(CallKind::Outcome)],
         "[\"expect\",D,OUTCOME]",
+        3,
+    ),
+    (
+        EventWord::Repeat,
+        "repeat",
+        &[
+            Want::Leaf(Leaf::Number(0, MOST_TIMES)),
+            Want::Array(Item::Event),
+        ],
+        "[\"repeat\",N,[EVENT..]]",
         3,
     ),
 ];
@@ -644,11 +682,11 @@ fn form_at<W: Copy>(
 /// The row of `ACTION_FORMS` in which the first form of a word likely stands, by `likely_place`. A
 /// row that is wrong costs time, and nothing else: all rows are searched then.
 const LIKELY_ROWS: [u8; 128] = [
-    0, 0, 0, 0, 0, 0, 0, 39, 0, 7, 0, 16, 35, 0, 0, 34, 13, 0, 0, 12, 0, 5, 0, 4, 27, 15, 0, 0, 29,
-    0, 0, 2, 9, 0, 0, 0, 0, 0, 0, 22, 0, 11, 0, 3, 0, 0, 0, 24, 37, 26, 20, 0, 0, 0, 28, 0, 0, 0,
-    25, 19, 0, 18, 0, 0, 38, 0, 0, 8, 0, 0, 0, 10, 0, 0, 0, 0, 0, 31, 0, 0, 0, 0, 0, 0, 14, 30, 17,
-    32, 0, 0, 0, 0, 21, 0, 0, 0, 0, 0, 0, 0, 0, 6, 0, 0, 0, 0, 0, 0, 0, 0, 23, 0, 0, 36, 0, 0, 0,
-    0, 0, 0, 0, 0, 0, 0, 33, 0, 0, 0,
+    0, 0, 0, 0, 0, 0, 0, 40, 0, 7, 0, 17, 36, 0, 0, 35, 14, 0, 0, 12, 0, 5, 0, 4, 28, 16, 0, 0, 30,
+    0, 0, 2, 9, 0, 0, 0, 0, 0, 0, 23, 0, 11, 0, 3, 0, 0, 0, 25, 38, 27, 21, 0, 0, 0, 29, 0, 0, 0,
+    26, 20, 0, 19, 0, 0, 39, 0, 0, 8, 0, 42, 0, 10, 0, 0, 0, 0, 0, 32, 0, 41, 0, 0, 0, 0, 15, 31,
+    18, 33, 0, 0, 0, 0, 22, 0, 0, 0, 0, 0, 0, 0, 0, 6, 0, 0, 0, 0, 0, 0, 0, 0, 24, 0, 0, 37, 0, 0,
+    0, 0, 0, 0, 0, 0, 0, 0, 34, 43, 0, 0,
 ];
 
 /// The place of a word in `LIKELY_ROWS`, by its length and its first and its last letter: no two
@@ -810,6 +848,9 @@ impl ActionWord {
             "thread" => Some(ActionWord::Thread),
             "threadIn" => Some(ActionWord::ThreadIn),
             "units" => Some(ActionWord::Units),
+            "cooperateIn" => Some(ActionWord::CooperateIn),
+            "unitsIn" => Some(ActionWord::UnitsIn),
+            "stopCooperator" => Some(ActionWord::StopCooperator),
             _ => None,
         }
     }
@@ -824,6 +865,7 @@ impl EventWord {
             "advance" => Some(EventWord::Advance),
             "drain" => Some(EventWord::Drain),
             "expect" => Some(EventWord::Expect),
+            "repeat" => Some(EventWord::Repeat),
             _ => None,
         }
     }

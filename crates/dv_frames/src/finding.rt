@@ -3,11 +3,12 @@
 ghost use Rattle.std.specs.Prelude.{◌≡◌, IfOk};
 ghost use Rattle.dv_frames.specs.Finding.{looked_up};
 ghost use Rattle.dv_objects.specs.Names.{number_of};
-ghost use Rattle.dv_world.specs.World.{deferred_at};
+ghost use Rattle.dv_world.specs.World.{cooperator_at, deferred_at};
 
 use crate::following::unbound;
 use crate::turn::Turn;
 use dv_clock::call_id::CallId;
+use dv_clock::cooperator_id::CooperatorId;
 use dv_clock::loop_id::LoopId;
 use dv_clock::task_id::TaskId;
 use dv_journal::deferred_id::DeferredId;
@@ -87,10 +88,19 @@ impl<'s> Turn<'s> {
     /// Looks up the task of a name.
     pub fn find_task(&mut self, name: &str) -> Result<Option<TaskId>, AllocError>
         ensures found { IfOk result
-            (λ found. found ≡ number_of name.now self.old.world.objects.cooperator.task_names) }
+            (λ found. found ≡ number_of name.now self.old.world.objects.cooperators.task_names) }
         ensures turn { IfOk result (λ found. self.new ≡ looked_up found name.now self.old) }
     {
         let found = self.world.find_task(name);
+        or_unbound(self, found, name)
+    }
+
+    /// Looks up the Cooperator that the script names so.
+    pub fn find_cooperator(&mut self, name: &str) -> Result<Option<CooperatorId>, AllocError>
+        ensures found { IfOk result (λ found. found ≡ cooperator_at name.now self.old.world) }
+        ensures turn { IfOk result (λ found. self.new ≡ looked_up found name.now self.old) }
+    {
+        let found = self.world.find_cooperator(name);
         or_unbound(self, found, name)
     }
 }

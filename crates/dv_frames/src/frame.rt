@@ -1,3 +1,4 @@
+use dv_clock::cooperator_id::CooperatorId;
 use dv_clock::loop_id::LoopId;
 use dv_clock::task_id::TaskId;
 use dv_inline::body::InlineBody;
@@ -67,8 +68,10 @@ pub enum Frame<'s> {
     Notify(DeferredId, TaskId),
     /// A body of the task has ended, unless the task has ended meanwhile.
     Stepped(TaskId),
+    /// The task ends with SchedulerStopped, unless it is paused or has ended.
+    Halt(TaskId),
     /// A tick of the Cooperator goes on, in which so many steps are left.
-    Tick(u32),
+    Tick(CooperatorId, u32),
     /// A failure that reaches it is logged as `unhandled`, and goes no further.
     Tell,
     /// What is due by now is run, one after the other.

@@ -3,6 +3,7 @@ ghost use Rattle.dv_frames.specs.declared.frame.Frame.TheVariants as Seen;
 ghost use Rattle.dv_frames.specs.Frames.{frame_of};
 
 use crate::frame::{Frame, Inlining, Purpose, Rest};
+use dv_clock::cooperator_id::CooperatorId;
 use dv_clock::task_id::TaskId;
 use dv_journal::deferred_id::DeferredId;
 use dv_objects::pair::Pair;
@@ -21,7 +22,8 @@ enum Kind {
     Canceller(DeferredId),
     Cancel(DeferredId),
     Stepped(TaskId),
-    Tick(u32),
+    Halt(TaskId),
+    Tick(CooperatorId, u32),
     Tell,
     Due,
     /// What is on top of the large ones.
@@ -107,7 +109,8 @@ impl<'s> Frames<'s> {
             Kind::Canceller(id) => Some(Frame::Canceller(id)),
             Kind::Cancel(id) => Some(Frame::Cancel(id)),
             Kind::Stepped(task) => Some(Frame::Stepped(task)),
-            Kind::Tick(left) => Some(Frame::Tick(left)),
+            Kind::Halt(task) => Some(Frame::Halt(task)),
+            Kind::Tick(of, left) => Some(Frame::Tick(of, left)),
             Kind::Tell => Some(Frame::Tell),
             Kind::Due => Some(Frame::Due),
             Kind::Large => match self.larges.pop() {
@@ -145,7 +148,8 @@ impl<'s> Frames<'s> {
             Frame::Give(performed) => self.push_large(Large::Give(performed)),
             Frame::Notify(id, task) => self.push_large(Large::Notify(id, task)),
             Frame::Stepped(task) => self.kinds.push(Kind::Stepped(task)),
-            Frame::Tick(left) => self.kinds.push(Kind::Tick(left)),
+            Frame::Halt(task) => self.kinds.push(Kind::Halt(task)),
+            Frame::Tick(of, left) => self.kinds.push(Kind::Tick(of, left)),
             Frame::Tell => self.kinds.push(Kind::Tell),
             Frame::Due => self.kinds.push(Kind::Due),
             Frame::Inline(inlining) => self.push_large(Large::Inline(inlining)),

@@ -17,7 +17,8 @@ use Rattle.dv_script.specs.declared.action.Action.{Note, List as ListOf, Gather,
 use Rattle.dv_script.specs.declared.action.Action.{Release, RunWith, Queue, Put, Get, Later, CancelCall, ResetCall}
 use Rattle.dv_script.specs.declared.action.Action.{DelayCall, StopLoop}
 use Rattle.dv_script.specs.declared.action.Action.{Cooperate, WhenDone, PauseTask, StopTask, ResumeTask, Inline, Thread}
-use Rattle.dv_script.specs.declared.action.Action.{map-Action, out-Action, Loop, ThreadIn, Units}
+use Rattle.dv_script.specs.declared.action.Action.{map-Action, out-Action, Loop, ThreadIn, Units, CooperateIn}
+use Rattle.dv_script.specs.declared.action.Action.{UnitsIn, StopCooperator}
 use Rattle.dv_script.specs.declared.limits.TheConstants.{MOST_PLACES, MOST_UNITS}
 use Rattle.dv_clock.specs.declared.limits.TheConstants.{MOST_DELAY}
 use Rattle.dv_forms.specs.Forms.{call, IsList, IsText, IsNumber, IsClass, IsValue}
@@ -31,6 +32,7 @@ use Rattle.dv_grammar.specs.Grammar.{list, gather}
 use Rattle.dv_grammar.specs.Grammar.{maybe, lock, semaphore, acquire, release, run_with, queue, put, get, later}
 use Rattle.dv_grammar.specs.Grammar.{cancel_call, reset_call, delay_call, loop, stop_loop, cooperate, when_done}
 use Rattle.dv_grammar.specs.Grammar.{pause_task, stop_task}
+use Rattle.dv_grammar.specs.Grammar.{cooperate_in, units_in, stop_cooperator}
 use Rattle.dv_grammar.specs.Grammar.{resume_task, inline, thread, thread_in, units, AreActions, no_actions}
 use Rattle.dv_grammar.specs.Grammar.{more_actions, IsDo}
 use Rattle.dv_grammar.specs.Grammar.{does_nothing, does, IsBody, body, body_by_name, running, AreBodies, no_bodies}
@@ -70,7 +72,8 @@ use Rattle.dv_script.specs.declared.action.Action.TheVariants.{outs-Put, outs-Ge
 use Rattle.dv_script.specs.declared.action.Action.TheVariants.{outs-ResetCall, outs-DelayCall}
 use Rattle.dv_script.specs.declared.action.Action.TheVariants.{outs-Loop, outs-StopLoop, outs-Cooperate, outs-WhenDone}
 use Rattle.dv_script.specs.declared.action.Action.TheVariants.{outs-PauseTask, outs-StopTask, outs-ResumeTask}
-use Rattle.dv_script.specs.declared.action.Action.TheVariants.{outs-Inline, outs-Thread, outs-ThreadIn, outs-Units}
+use Rattle.dv_script.specs.declared.action.Action.TheVariants.{outs-Inline, outs-Thread, outs-ThreadIn, outs-Units, outs-CooperateIn, outs-UnitsIn}
+use Rattle.dv_script.specs.declared.action.Action.TheVariants.{outs-StopCooperator}
 use Rattle.dv_script.specs.declared.body.Statement.TheVariants.{outs-Do, outs-Await, outs-Try, outs-Finally}
 use Rattle.dv_script.specs.declared.body.Statement.TheVariants.{outs-Raise, outs-Caught, outs-End}
 use Rattle.dv_script.specs.declared.action.Action.TheFolds.{fold_out-Action, fold_out-Statement, fold_out-Body}
@@ -304,6 +307,11 @@ module _ (table : List Class) (r : Readers) (sound : AreSound table r) where
       thread_in_read &
       (λ ds x e. one_read (number_at 1 MOST_UNITS) Units ds x e
       (λ d n ds_is n_is made. rw (ds_is, ← made) (units d n (number_is 1 MOST_UNITS d n n_is)))) &
+      named_with_two table text_at IsText text_is (list_at r.body) (IsBodies table) bodies_in CooperateIn
+      (codes "cooperateIn") (λ n c d w bs c_is h. rw (c_is, h.1) (cooperate_in n w h.0 bs h.2)) &
+      named_with table (number_at 1 MOST_UNITS) (IsNumber 1 MOST_UNITS) (number_is 1 MOST_UNITS) UnitsIn
+      (codes "unitsIn") units_in &
+      named table StopCooperator (codes "stopCooperator") stop_cooperator &
       tt
 
   pub sound_action : (d : Data) (x : Action) → action_with table r d ≡ Some x → IsAction table d x
@@ -465,6 +473,9 @@ mutual
   complete_action table n (thread_in name pool c d delay job g k) h =
       rw (complete_number 0 MOST_DELAY c delay g, complete_work table d job k) refl
   complete_action table n (units d m g) h = rw (complete_number 1 MOST_UNITS d m g) refl
+  complete_action table n (cooperate_in name w ds bodies g) h = rw (complete_bodies table n g (omega (arith, h))) refl
+  complete_action table n (units_in name d m g) h = rw (complete_number 1 MOST_UNITS d m g) refl
+  complete_action table n (stop_cooperator name) h = refl
 
   pub complete_actions : (table : List Class) {ds : Items} {xs : List Action} (n : ℕ) → AreActions table ds xs
       → items_depth ds ≤ n → each (action_at table n) ds ≡ Some xs
@@ -618,6 +629,10 @@ mutual
   short_action (thread_in name pool c d delay job g k) =
       by_action (ThreadIn name pool delay job) (rw (outs-ThreadIn name pool delay job) (rw (delay_is g) refl))
   short_action (units d m g) = by_action (Units m) (rw (outs-Units m) refl)
+  short_action (cooperate_in name w ds bodies g) =
+      by_action (CooperateIn name w bodies) (rw (outs-CooperateIn name w bodies) (rw (short_bodies g) refl))
+  short_action (units_in name d m g) = by_action (UnitsIn name m) (rw (outs-UnitsIn name m) refl)
+  short_action (stop_cooperator name) = by_action (StopCooperator name) (rw (outs-StopCooperator name) refl)
 
   short_actions : {table : List Class} {ds : Items} {xs : List Action} → AreActions table ds xs
       → list_all (λ b. b) (map times_action xs) ≡ true

@@ -1,16 +1,16 @@
 -- What holds of events, posts and scripts: what is read is in the grammar, and what is in the grammar is read.
 use Rattle.std.proofs.Common.{◌≡◌, ℕ, suc, ◌≤◌, Bool, List, [], ◌∷◌, Option, Some, None, option_and_then, refl, ap}
-use Rattle.std.proofs.Common.{codes, arith}
+use Rattle.std.proofs.Common.{codes, arith, true}
 use Rattle.serde_json.specs.Data.{Data, string, array, object, Items, no_items, item, Members, depth, items_depth}
 use Rattle.serde_json.specs.Data.{members_depth}
 use Rattle.serde_json.specs.Find.{as_array, get_member}
 use Rattle.serde_json.specs.Read.{max_depth}
 use Rattle.dv_value.specs.declared.classes.Class.{Class}
 use Rattle.dv_script.specs.declared.body.Body.{Body}
-use Rattle.dv_script.specs.declared.action.Action.{Action}
 use Rattle.dv_script.specs.declared.event.Event.{Event}
 use Rattle.dv_script.specs.declared.script.Cooperator.{Cooperator}
 use Rattle.dv_script.specs.declared.script.NamedBody.{NamedBody}
+use Rattle.dv_script.specs.declared.script.NamedCooperator.{NamedCooperator}
 use Rattle.dv_script.specs.declared.script.NamedPool.{NamedPool}
 use Rattle.dv_script.specs.declared.limits.TheConstants.{MOST_DRAINED, MOST_UNITS, MOST_WORKERS}
 use Rattle.dv_script.specs.declared.limits.TheConstants.{USUAL_LIMIT}
@@ -21,60 +21,20 @@ use Rattle.dv_grammar.specs.declared.draft.Draft.{Draft}
 use Rattle.dv_forms.specs.Forms.{Each, IsList, Field, Key, IsNumber}
 use Rattle.dv_forms.specs.Limits.{most_limit}
 use Rattle.dv_forms.specs.Table.{table_of}
-use Rattle.dv_forms.specs.declared.words.EventWord.{EventWord}
-use Rattle.dv_forms.specs.Words.{event_word, event_words}
-use Rattle.dv_grammar.specs.Grammar.{cooperator_keys, keys_of, plain_cooperator, IsAction, IsBody, IsEvent, acts}
-use Rattle.dv_grammar.specs.Grammar.{advances, drains, expects, IsDeclaration, declares, IsPool, pools, IsCooperator, IsScript}
-use Rattle.dv_grammar.specs.Grammar.{IsNamedBody, names_body}
+use Rattle.dv_grammar.specs.Grammar.{AreEvents, cooperator_keys, keys_of, plain_cooperator, IsBody}
+use Rattle.dv_grammar.specs.Grammar.{IsDeclaration, declares, IsPool, pools, IsCooperator, IsScript}
+use Rattle.dv_grammar.specs.Grammar.{IsNamedBody, names_body, IsNamedCooperator, names_cooperator}
 use Rattle.dv_forms.specs.Parts.{each, list_at, text_at, number_at, within, call_at, none, first, one, two, sole, pair}
 use Rattle.dv_forms.specs.Parts.{fields_at, field, declaration_at, table_for}
-use Rattle.dv_grammar.specs.Shape.{action_by, readers, body_at, action_at, event_by, event_at, event_of, other_event}
-use Rattle.dv_grammar.specs.Shape.{cooperator_at, expect_of, named_body_at, outcome_at, pool_at, caller_at, script_at}
+use Rattle.dv_grammar.specs.Shape.{body_at, cooperator_at, events_in, named_body_at, pool_at, caller_at, script_at}
+use Rattle.dv_grammar.specs.Shape.{named_cooperator_at, script_by}
 use Rattle.dv_grammar.proofs.Steps.{some_injective, bind}
-use Rattle.dv_grammar.proofs.WordsLemmas.{◌&◌, EachWord, found_word}
-use Rattle.dv_script.specs.declared.event.Event.TheVariants as happens
-use Rattle.dv_grammar.proofs.Leaves.{call_is, one_read, two_read, text_is, array_is, number_is, sound_list, sound_field}
-use Rattle.dv_grammar.proofs.Leaves.{sound_outcome, complete_outcome}
+use Rattle.dv_grammar.proofs.Leaves.{two_read, text_is, array_is, number_is, sound_list, sound_field}
+use Rattle.dv_grammar.proofs.Repeats.{sound_events, complete_events}
 use Rattle.dv_grammar.proofs.Leaves.{sound_key, fields_is, complete_list, complete_field, complete_key, complete_number}
-use Rattle.dv_grammar.proofs.Actions.{sound_action, sound_readers, depth-get_member, complete_action, complete_body}
+use Rattle.dv_grammar.proofs.Actions.{sound_readers, depth-get_member, complete_body}
 
 -- ---- events, posts, scripts
-
--- what the word of this event reads as is in the grammar
-abbrev IsEventRead : List Class → EventWord → List ℕ → Type 0
-IsEventRead table word text =
-    (ds : Items) (x : Event) → event_of table word ds ≡ Some x → IsEvent table (array (item (string text) ds)) x
-
-sound_event_words : (table : List Class) → EachWord (IsEventRead table) event_words
-unfolding event_of expect_of
-sound_event_words table =
-    (λ ds x e. one_read (number_at 0 MOST_TICKS) happens.Advance ds x e
-    (λ d n ds_is n_is made. rw (ds_is, ← made) (advances d n (number_is 0 MOST_TICKS d n n_is)))) &
-    (λ ds x e. one_read (number_at 0 MOST_DRAINED) happens.Drain ds x e
-    (λ d n ds_is n_is made. rw (ds_is, ← made) (drains d n (number_is 0 MOST_DRAINED d n n_is)))) &
-    (λ ds x e. two_read text_at (outcome_at table) happens.Expect ds x e
-    (λ c f n y ds_is n_is y_is made. rw (ds_is, text_is c n n_is, ← made) (expects n f y (sound_outcome table f y y_is)))) &
-    tt
-
-sound_other : (table : List Class) (d : Data) (x : Event) → other_event table d ≡ Some x → IsEvent table d x
-unfolding other_event
-sound_other table d x e =
-    bind (call_at d) _ x e (λ c c_is c_then.
-    bind (event_word c.0) _ x c_then (λ w w_is w_then.
-    rw (call_is d c c_is)
-    (found_word (IsEventRead table) event_words (sound_event_words table) c.0 w w_is c.1 x w_then)))
-
-sound_event_by : (table : List Class) (d : Data) (x : Event) (o : Option Action) (other : Option Event)
-    → ((a : Action) → o ≡ Some a → IsAction table d a)
-    → ((y : Event) → other ≡ Some y → IsEvent table d y) → event_by o other ≡ Some x → IsEvent table d x
-sound_event_by table d x (Some a) other act happen e = rw (← some_injective e) (acts d a (act a refl))
-sound_event_by table d x None other act happen e = happen x e
-
-sound_event : (table : List Class) (d : Data) (x : Event) → event_at table d ≡ Some x → IsEvent table d x
-unfolding event_at
-sound_event table d x e =
-    sound_event_by table d x (action_at table max_depth d) (other_event table d)
-    (sound_action table (readers table max_depth) (sound_readers table max_depth) d) (sound_other table d) e
 
 sound_declaration : (d : Data) (x : Declaration) → declaration_at d ≡ Some x → IsDeclaration d x
 unfolding declaration_at
@@ -109,6 +69,13 @@ sound_pool d x e =
     two_read text_at (number_at 0 MOST_WORKERS) _ ds x ds_then (λ c f n k items_are n_is k_is made.
     rw (array_is d ds ds_is, items_are, text_is c n n_is, ← made) (pools n f k (number_is 0 MOST_WORKERS f k k_is))))
 
+sound_named_cooperator : (d : Data) (x : NamedCooperator) → named_cooperator_at d ≡ Some x → IsNamedCooperator d x
+unfolding named_cooperator_at
+sound_named_cooperator d x e =
+    bind (as_array d) _ x e (λ ds ds_is ds_then.
+    two_read text_at cooperator_at _ ds x ds_then (λ c f n k items_are n_is k_is made.
+    rw (array_is d ds ds_is, items_are, text_is c n n_is, ← made) (names_cooperator n f k (sound_cooperator f k k_is))))
+
 sound_named_body : (table : List Class) (d : Data) (x : NamedBody) → named_body_at table d ≡ Some x
     → IsNamedBody table d x
 unfolding named_body_at
@@ -124,20 +91,22 @@ sound_caller table = sound_list (IsBody table) (body_at table max_depth) (sound_
 
 -- a value that is read as a script has its shape
 pub sound_script : (d : Data) (draft : Draft) → script_at d ≡ Some draft → IsScript d draft
-unfolding script_at fields_at table_for
+unfolding script_by fields_at table_for
 sound_script (object ms) draft e =
     bind (option_and_then (number_at 1 LAST_VERSION) (get_member (codes "version") ms)) _ draft e (λ v v_is v_then.
     bind (fields_at (keys_of v) (object ms)) _ draft v_then (λ t t_is t_then.
     bind (field USUAL_LIMIT (number_at 0 (most_limit v)) (get_member (codes "limit") ms)) _ draft t_then
     (λ l l_is l_then.
     bind (field plain_cooperator cooperator_at (get_member (codes "cooperator") ms)) _ draft l_then (λ o o_is o_then.
-    bind (field [] (list_at pool_at) (get_member (codes "pools") ms)) _ draft o_then (λ q q_is q_then.
+    bind (field [] (list_at named_cooperator_at) (get_member (codes "cooperators") ms)) _ draft o_then
+    (λ w w_is w_then.
+    bind (field [] (list_at pool_at) (get_member (codes "pools") ms)) _ draft w_then (λ q q_is q_then.
     bind (field [] (list_at declaration_at) (get_member (codes "classes") ms)) _ draft q_then (λ c c_is c_then.
-    bind (field [] (list_at (named_body_at (table_of c))) (get_member (codes "bodies") ms)) _ draft c_then
+    bind (field [] (list_at (named_body_at (table_of v c))) (get_member (codes "bodies") ms)) _ draft c_then
     (λ z z_is z_then.
-    bind (field [] (list_at (caller_at (table_of c))) (get_member (codes "callers") ms)) _ draft z_then
+    bind (field [] (list_at (caller_at (table_of v c))) (get_member (codes "callers") ms)) _ draft z_then
     (λ p p_is p_then.
-    bind (option_and_then (list_at (event_at (table_of c))) (get_member (codes "events") ms)) _ draft p_then
+    bind (option_and_then (events_in true (table_of v c)) (get_member (codes "events") ms)) _ draft p_then
     (λ y y_is y_then.
     rw (← some_injective y_then) (record {
       members = ms;
@@ -158,33 +127,28 @@ sound_script (object ms) draft e =
       cooperator =
           sound_field plain_cooperator o IsCooperator cooperator_at sound_cooperator
           (get_member (codes "cooperator") ms) o_is;
+      cooperators =
+          sound_field [] w (IsList IsNamedCooperator) (list_at named_cooperator_at)
+          (sound_list IsNamedCooperator named_cooperator_at sound_named_cooperator)
+          (get_member (codes "cooperators") ms) w_is;
       pools =
           sound_field [] q (IsList IsPool) (list_at pool_at) (sound_list IsPool pool_at sound_pool)
           (get_member (codes "pools") ms) q_is;
       bodies =
-          sound_field [] z (IsList (IsNamedBody (table_of c))) (list_at (named_body_at (table_of c)))
-          (sound_list (IsNamedBody (table_of c)) (named_body_at (table_of c)) (sound_named_body (table_of c)))
+          sound_field [] z (IsList (IsNamedBody (table_of v c))) (list_at (named_body_at (table_of v c)))
+          (sound_list (IsNamedBody (table_of v c)) (named_body_at (table_of v c)) (sound_named_body (table_of v c)))
           (get_member (codes "bodies") ms) z_is;
       callers =
-          sound_field [] p (IsList (IsList (IsBody (table_of c)))) (list_at (caller_at (table_of c)))
-          (sound_list (IsList (IsBody (table_of c))) (caller_at (table_of c)) (sound_caller (table_of c)))
+          sound_field [] p (IsList (IsList (IsBody (table_of v c)))) (list_at (caller_at (table_of v c)))
+          (sound_list (IsList (IsBody (table_of v c))) (caller_at (table_of v c)) (sound_caller (table_of v c)))
           (get_member (codes "callers") ms) p_is;
       events =
-          sound_key y (IsList (IsEvent (table_of c))) (list_at (event_at (table_of c)))
-          (sound_list (IsEvent (table_of c)) (event_at (table_of c)) (sound_event (table_of c)))
+          sound_key y (AreEvents (table_of v c)) (events_in true (table_of v c)) (sound_events (table_of v c))
           (get_member (codes "events") ms) y_is;
-    }))))))))))
+    })))))))))))
 sound_script _ draft e = cc
 
 -- ---- events, posts, scripts
-
-complete_event : (table : List Class) (d : Data) (e : Event) → depth d ≤ max_depth → IsEvent table d e
-    → event_at table d ≡ Some e
-unfolding event_at event_of expect_of other_event action_by call_at none first one two sole pair
-complete_event table d _ h (acts _ a g) = rw (complete_action table max_depth g h) refl
-complete_event table _ _ h (advances d n g) = rw (complete_number 0 MOST_TICKS d n g) refl
-complete_event table _ _ h (drains d n g) = rw (complete_number 0 MOST_DRAINED d n g) refl
-complete_event table _ _ h (expects name d x g) = rw (complete_outcome table d x g) refl
 
 complete_each_deep : {X : Type 0} (Is : Data → X → Type 0) (at : Data → Option X)
     → ((d : Data) (x : X) → depth d ≤ max_depth → Is d x → at d ≡ Some x)
@@ -239,6 +203,11 @@ complete_cooperator d c h =
           (get_member (codes "delay") h.members) h.delay,
     ) refl))
 
+complete_named_cooperator : (d : Data) (c : NamedCooperator) → IsNamedCooperator d c
+    → named_cooperator_at d ≡ Some c
+unfolding named_cooperator_at none first one two pair
+complete_named_cooperator _ _ (names_cooperator name d c h) = rw (complete_cooperator d c h) refl
+
 complete_callers : (table : List Class) (ms : Members) (callers : List (List Body)) → members_depth ms ≤ max_depth
     → (o : Option Data) → ((d : Data) → o ≡ Some d → depth d ≤ max_depth)
     → Field [] (IsList (IsList (IsBody table))) o callers
@@ -247,12 +216,11 @@ complete_callers table ms callers deep None within h = rw h refl
 complete_callers table ms callers deep (Some d) within h =
     complete_list_deep (IsList (IsBody table)) (caller_at table) (complete_caller table) d callers (within d refl) h
 
-complete_events : (table : List Class) (events : List Event)
-    → (o : Option Data) → ((d : Data) → o ≡ Some d → depth d ≤ max_depth) → Key (IsList (IsEvent table)) o events
-    → option_and_then (list_at (event_at table)) o ≡ Some events
-complete_events table events None within h = absurd h
-complete_events table events (Some d) within h =
-    complete_list_deep (IsEvent table) (event_at table) (complete_event table) d events (within d refl) h
+complete_key_events : (table : List Class) (events : List Event)
+    → (o : Option Data) → ((d : Data) → o ≡ Some d → depth d ≤ max_depth) → Key (AreEvents table) o events
+    → option_and_then (events_in true table) o ≡ Some events
+complete_key_events table events None within h = absurd h
+complete_key_events table events (Some d) within h = complete_events table d events (within d refl) h
 
 -- a draft whose table, and whether all its classes are declared, are written out
 same_draft : (draft : Draft) (table : List Class) (all : Bool) → draft.script.classes ≡ table → draft.all_declared ≡ all
@@ -264,6 +232,7 @@ same_draft : (draft : Draft) (table : List Class) (all : Bool) → draft.script.
         classes = table;
         limit = draft.script.limit;
         cooperator = draft.script.cooperator;
+        cooperators = draft.script.cooperators;
         pools = draft.script.pools;
         bodies = draft.script.bodies;
         callers = draft.script.callers;
@@ -274,23 +243,23 @@ same_draft draft table all e f = rw (← e, ← f) refl
 
 -- a value of a script's shape is read as that script
 pub complete_script : (d : Data) (draft : Draft) → depth d ≤ max_depth → IsScript d draft → script_at d ≡ Some draft
-unfolding script_at fields_at table_for
+unfolding script_by fields_at table_for
 complete_script d draft deep h =
     let inside : suc (members_depth h.members) ≤ max_depth = rw h.whole at deep in
     let within : (key : List ℕ) (e : Data) → get_member key h.members ≡ Some e → depth e ≤ max_depth =
     (λ key e is. let below : depth e ≤ members_depth h.members = depth-get_member key h.members e is in
     omega (arith, inside, below)) in
-    let bodies : field [] (list_at (named_body_at (table_of draft.declared))) (get_member (codes "bodies") h.members)
+    let bodies : field [] (list_at (named_body_at (table_of draft.version draft.declared))) (get_member (codes "bodies") h.members)
     ≡ Some draft.script.bodies =
-    complete_named_bodies (table_of draft.declared) draft.script.bodies (get_member (codes "bodies") h.members)
+    complete_named_bodies (table_of draft.version draft.declared) draft.script.bodies (get_member (codes "bodies") h.members)
     (within (codes "bodies")) (rw h.table at h.bodies) in
-    let callers : field [] (list_at (caller_at (table_of draft.declared))) (get_member (codes "callers") h.members)
+    let callers : field [] (list_at (caller_at (table_of draft.version draft.declared))) (get_member (codes "callers") h.members)
     ≡ Some draft.script.callers =
-    complete_callers (table_of draft.declared) h.members draft.script.callers (omega (arith, inside))
+    complete_callers (table_of draft.version draft.declared) h.members draft.script.callers (omega (arith, inside))
     (get_member (codes "callers") h.members) (within (codes "callers")) (rw h.table at h.callers) in
-    let events : option_and_then (list_at (event_at (table_of draft.declared))) (get_member (codes "events") h.members)
+    let events : option_and_then (events_in true (table_of draft.version draft.declared)) (get_member (codes "events") h.members)
     ≡ Some draft.script.events =
-    complete_events (table_of draft.declared) draft.script.events (get_member (codes "events") h.members)
+    complete_key_events (table_of draft.version draft.declared) draft.script.events (get_member (codes "events") h.members)
     (within (codes "events")) (rw h.table at h.events) in
     let version =
     complete_key draft.version (IsNumber 1 LAST_VERSION) (number_at 1 LAST_VERSION) (complete_number 1 LAST_VERSION)
@@ -301,6 +270,9 @@ complete_script d draft deep h =
           (get_member (codes "limit") h.members) h.limit,
       complete_field plain_cooperator draft.script.cooperator IsCooperator cooperator_at complete_cooperator
           (get_member (codes "cooperator") h.members) h.cooperator,
+      complete_field [] draft.script.cooperators (IsList IsNamedCooperator) (list_at named_cooperator_at)
+          (complete_list IsNamedCooperator named_cooperator_at complete_named_cooperator)
+          (get_member (codes "cooperators") h.members) h.cooperators,
       complete_field [] draft.script.pools (IsList IsPool) (list_at pool_at)
           (complete_list IsPool pool_at complete_pool) (get_member (codes "pools") h.members) h.pools,
       complete_field [] draft.declared (IsList IsDeclaration) (list_at declaration_at)

@@ -1,7 +1,7 @@
 -- The grammar of scripts: which JSON stands for what, a rule a line (Twisted: the methods of `Deferred`, and of the
 -- objects round it).
-use Rattle.std.specs.Prelude.{◌≡◌, ℕ, nat_eq, nat_lt, if◌then◌else◌, ℤ, Bool, true, List, [], ◌∷◌, Option, Some, None}
-use Rattle.std.specs.Prelude.{codes}
+use Rattle.std.specs.Prelude.{◌≡◌, ℕ, zero, suc, nat_eq, nat_lt, if◌then◌else◌, ℤ, Bool, true, List, [], ◌∷◌, ◌++◌}
+use Rattle.std.specs.Prelude.{Option, Some, None, codes}
 use Rattle.std.specs.Prelude.{◌&&◌, min, max}
 use Rattle.serde_json.specs.Data.{Data, null, boolean, string, array, object, Items, no_items, item, Members}
 use Rattle.serde_json.specs.Find.{get_member}
@@ -22,12 +22,13 @@ use Rattle.dv_script.specs.declared.action.Action.{Note, List as ListOf, Gather,
 use Rattle.dv_script.specs.declared.action.Action.{Release, RunWith, Queue, Put, Get, Later, CancelCall, ResetCall}
 use Rattle.dv_script.specs.declared.action.Action.{DelayCall, Loop, StopLoop}
 use Rattle.dv_script.specs.declared.action.Action.{Cooperate, WhenDone, PauseTask, StopTask, ResumeTask, Inline, Thread}
-use Rattle.dv_script.specs.declared.action.Action.{ThreadIn, Units}
+use Rattle.dv_script.specs.declared.action.Action.{ThreadIn, Units, CooperateIn, UnitsIn, StopCooperator}
 use Rattle.dv_script.specs.declared.event.Event.{Event}
 use Rattle.dv_script.specs.declared.expected.Expected.{Expected}
 use Rattle.dv_script.specs.declared.expected.Expected.TheVariants as expected
 use Rattle.dv_script.specs.declared.script.Cooperator.{Cooperator}
 use Rattle.dv_script.specs.declared.script.NamedBody.{NamedBody}
+use Rattle.dv_script.specs.declared.script.NamedCooperator.{NamedCooperator}
 use Rattle.dv_script.specs.declared.script.NamedPool.{NamedPool}
 use Rattle.dv_script.specs.declared.limits.TheConstants.{MOST_DRAINED, MOST_PLACE, MOST_PLACES, MOST_SUM, MOST_UNITS}
 use Rattle.dv_script.specs.declared.limits.TheConstants.{MOST_WORKERS, USUAL_LIMIT}
@@ -39,6 +40,7 @@ use Rattle.dv_forms.specs.Leaving.{may_leave}
 use Rattle.dv_forms.specs.Forms.{call, IsList, Field, Key, is_keyed_by, IsText, IsInteger, IsNumber, IsClass, IsValue}
 use Rattle.dv_forms.specs.Forms.{IsFailure}
 use Rattle.dv_forms.specs.Limits.{most_limit}
+use Rattle.dv_forms.specs.declared.limits.TheConstants.{MOST_TIMES}
 use Rattle.dv_forms.specs.Table.{table_of, all_declared}
 use Rattle.std.specs.List.{list_all}
 use Rattle.dv_script.specs.declared.action.Action.TheFolds.{fold-Action, fold-Body, fold-Statement}
@@ -61,11 +63,12 @@ abbrev pub script_keys : List (List ℕ)
 script_keys =
     codes "version" ∷ codes "events" ∷ codes "limit" ∷ codes "classes" ∷ codes "cooperator" ∷ codes "callers" ∷ []
 
--- the keys of a script of this version: from the second on there is one more, and another from the third on
+-- the keys of a script of this version: from the second on there is one more, and two others from the third on
 abbrev pub keys_of : ℕ → List (List ℕ)
 keys_of version =
     if nat_eq version 1 then script_keys else
-    if nat_lt version BODIES_SINCE then codes "pools" ∷ script_keys else codes "bodies" ∷ codes "pools" ∷ script_keys
+    if nat_lt version BODIES_SINCE then codes "pools" ∷ script_keys
+    else codes "cooperators" ∷ codes "bodies" ∷ codes "pools" ∷ script_keys
 
 -- END: how a body gives its result
 pub data IsEnd (table : List Class) : Data → End → Type 0 where
@@ -254,6 +257,16 @@ mutual
     -- ["units",N]
     units : (d : Data) (n : ℕ) → IsNumber 1 MOST_UNITS d n
         → IsAction table (call (codes "units") (d ∷ [])) (Units n)
+    -- ["cooperateIn",T,W,[BODY..]]
+    cooperate_in : (name cooperator : List ℕ) (ds : Items) (bodies : List Body) → AreBodies table ds bodies
+        → IsAction table (call (codes "cooperateIn") (string name ∷ string cooperator ∷ array ds ∷ []))
+        (CooperateIn name cooperator bodies)
+    -- ["unitsIn",W,N]
+    units_in : (name : List ℕ) (d : Data) (n : ℕ) → IsNumber 1 MOST_UNITS d n
+        → IsAction table (call (codes "unitsIn") (string name ∷ d ∷ [])) (UnitsIn name n)
+    -- ["stopCooperator",W]
+    stop_cooperator : (name : List ℕ)
+        → IsAction table (call (codes "stopCooperator") (string name ∷ [])) (StopCooperator name)
 
   -- the items of an array of actions
   pub data AreActions (table : List Class) : Items → List Action → Type 0 where
@@ -325,6 +338,29 @@ pub data IsEvent (table : List Class) : Data → Event → Type 0 where
   expects : (name : List ℕ) (d : Data) (x : Expected) → IsOutcome table d x
       → IsEvent table (call (codes "expect") (string name ∷ d ∷ [])) (event.Expect name x)
 
+-- the events, so many times in a row
+abbrev pub repeated : ℕ → List Event → List Event
+repeated zero es = []
+repeated (suc n) es = es ++ repeated n es
+
+mutual
+  -- an item of an array of events: one event, or a repeat, which stands for what it repeats, written out
+  pub data IsListed (table : List Class) : Data → List Event → Type 0 where
+    one_event : (d : Data) (e : Event) → IsEvent table d e → IsListed table d (e ∷ [])
+    -- ["repeat",N,[EVENT..]]
+    repeats : (d : Data) (n : ℕ) (ds : Items) (es : List Event) → IsNumber 0 MOST_TIMES d n → AreListed table ds es
+        → IsListed table (call (codes "repeat") (d ∷ array ds ∷ [])) (repeated n es)
+
+  -- the items of an array of events
+  pub data AreListed (table : List Class) : Items → List Event → Type 0 where
+    no_events : AreListed table no_items []
+    more_events : (d : Data) (ds : Items) (es rest : List Event) → IsListed table d es → AreListed table ds rest
+        → AreListed table (item d ds) (es ++ rest)
+
+-- an array of events
+abbrev pub AreEvents : List Class → Data → List Event → Type 0
+AreEvents table d es = (ds : Items) × (d ≡ array ds) × AreListed table ds es
+
 -- a class that is declared: [NAME,PARENT]
 pub data IsDeclaration : Data → Declaration → Type 0 where
   declares : (name parent : List ℕ) → IsDeclaration (array (item (string name) (item (string parent) no_items)))
@@ -348,6 +384,11 @@ pub record IsCooperator (d : Data) (c : Cooperator) : Type 0 where
   pub units : Key (IsNumber 1 MOST_UNITS) (get_member (codes "units") members) c.units
   pub delay : Key (IsNumber 1 MOST_DELAY) (get_member (codes "delay") members) c.delay
 
+-- a Cooperator that is named: [NAME,COOPERATOR]
+pub data IsNamedCooperator : Data → NamedCooperator → Type 0 where
+  names_cooperator : (name : List ℕ) (d : Data) (c : Cooperator) → IsCooperator d c
+      → IsNamedCooperator (array (item (string name) (item d no_items))) (record { name = name; settings = c })
+
 -- one step a tick, a tick of the cooperator each tick of the clock
 abbrev pub plain_cooperator : Cooperator
 plain_cooperator = record { units = 1; delay = 1 }
@@ -360,17 +401,19 @@ pub record IsScript (d : Data) (draft : Draft) : Type 0 where
   pub version : Key (IsNumber 1 LAST_VERSION) (get_member (codes "version") members) draft.version
   pub only : is_keyed_by (keys_of draft.version) members ≡ true
   pub declared : Field [] (IsList IsDeclaration) (get_member (codes "classes") members) draft.declared
-  pub all_declared : draft.all_declared ≡ all_declared draft.declared
-  pub table : draft.script.classes ≡ table_of draft.declared
+  pub all_declared : draft.all_declared ≡ all_declared draft.version draft.declared
+  pub table : draft.script.classes ≡ table_of draft.version draft.declared
   pub limit : Field USUAL_LIMIT (IsNumber 0 (most_limit draft.version))
       (get_member (codes "limit") members) draft.script.limit
   pub cooperator : Field plain_cooperator IsCooperator (get_member (codes "cooperator") members) draft.script.cooperator
+  pub cooperators : Field [] (IsList IsNamedCooperator)
+      (get_member (codes "cooperators") members) draft.script.cooperators
   pub pools : Field [] (IsList IsPool) (get_member (codes "pools") members) draft.script.pools
   pub bodies : Field [] (IsList (IsNamedBody draft.script.classes))
       (get_member (codes "bodies") members) draft.script.bodies
   pub callers : Field [] (IsList (IsList (IsBody draft.script.classes)))
       (get_member (codes "callers") members) draft.script.callers
-  pub events : Key (IsList (IsEvent draft.script.classes)) (get_member (codes "events") members) draft.script.events
+  pub events : Key (AreEvents draft.script.classes) (get_member (codes "events") members) draft.script.events
 
 -- ---- times: the steps of the world cut a delay or an interval that is too long. None that stands in the grammar is.
 
@@ -428,6 +471,9 @@ action_step (Action-F.Inline name statements) = list_all (λ b. b) statements
 action_step (Action-F.Thread name delay job) = is_delay delay
 action_step (Action-F.ThreadIn name pool delay job) = is_delay delay
 action_step (Action-F.Units n) = true
+action_step (Action-F.CooperateIn name cooperator bodies) = list_all (λ b. b) bodies
+action_step (Action-F.UnitsIn name n) = true
+action_step (Action-F.StopCooperator name) = true
 
 -- of a statement
 abbrev pub statement_step : Statement-F Bool Bool Bool → Bool

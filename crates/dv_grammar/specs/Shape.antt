@@ -1,6 +1,7 @@
 -- What a JSON value reads as by its shape, step by step: the reader that the code follows.
-use Rattle.std.specs.Prelude.{ℕ, zero, suc, List, [], Option, Some, None, if◌then◌else◌, codes}
-use Rattle.serde_json.specs.Data.{Data, Items}
+use Rattle.std.specs.Prelude.{ℕ, zero, suc, Bool, true, List, [], ◌∷◌, Option, Some, None, option_and_then, option_map}
+use Rattle.std.specs.Prelude.{if◌then◌else◌, codes}
+use Rattle.serde_json.specs.Data.{Data, Items, no_items, item}
 use Rattle.serde_json.specs.Find.{as_array, as_bool, as_str, get}
 use Rattle.serde_json.specs.Read.{max_depth}
 use Rattle.dv_value.specs.declared.classes.Class.{Class}
@@ -17,13 +18,14 @@ use Rattle.dv_script.specs.declared.action.Action.{Note, List as ListOf, Gather,
 use Rattle.dv_script.specs.declared.action.Action.{Release, RunWith, Queue, Put, Get, Later, CancelCall, ResetCall}
 use Rattle.dv_script.specs.declared.action.Action.{DelayCall, Loop, StopLoop}
 use Rattle.dv_script.specs.declared.action.Action.{Cooperate, WhenDone, PauseTask, StopTask, ResumeTask, Inline, Thread}
-use Rattle.dv_script.specs.declared.action.Action.{ThreadIn, Units}
+use Rattle.dv_script.specs.declared.action.Action.{ThreadIn, Units, CooperateIn, UnitsIn, StopCooperator}
 use Rattle.dv_script.specs.declared.event.Event.{Event}
 use Rattle.dv_script.specs.declared.event.Event.TheVariants as happens
 use Rattle.dv_script.specs.declared.expected.Expected.{Expected}
 use Rattle.dv_script.specs.declared.expected.Expected.TheVariants as expected
 use Rattle.dv_script.specs.declared.script.Cooperator.{Cooperator}
 use Rattle.dv_script.specs.declared.script.NamedBody.{NamedBody}
+use Rattle.dv_script.specs.declared.script.NamedCooperator.{NamedCooperator}
 use Rattle.dv_script.specs.declared.script.NamedPool.{NamedPool}
 use Rattle.dv_script.specs.declared.limits.TheConstants.{MOST_DRAINED, MOST_PLACE, MOST_PLACES, MOST_SUM, MOST_UNITS}
 use Rattle.dv_script.specs.declared.limits.TheConstants.{MOST_WORKERS, USUAL_LIMIT}
@@ -50,7 +52,9 @@ use Rattle.dv_forms.specs.Limits.{most_limit}
 use Rattle.dv_forms.specs.Parts.{◌>>=◌, bound_at, call_at, class_at, declaration_at, field, fields_at, five, four}
 use Rattle.dv_forms.specs.Parts.{gather_flag_at, if_there, integer_at, list_at, list_flag_at, none, number_at, one_of}
 use Rattle.dv_forms.specs.Parts.{fault_at, one_or_two, table_for, text_at, three_of, two_of, two_or_three, value_at}
-use Rattle.dv_grammar.specs.Grammar.{body_keys, cooperator_keys, keys_of, plain_cooperator, running}
+use Rattle.dv_forms.specs.Answer.{with_front}
+use Rattle.dv_forms.specs.Repeat.{repeat_at}
+use Rattle.dv_grammar.specs.Grammar.{body_keys, cooperator_keys, keys_of, plain_cooperator, repeated, running}
 
 -- an end, by its word
 unfoldable pub end_of : List Class → EndWord → Items → Option End
@@ -178,6 +182,9 @@ action_of table body statement word.Inline ds = two_of text_at (list_at statemen
 action_of table body statement word.Thread ds = three_of text_at (number_at 0 MOST_DELAY) (work_at table) Thread ds
 action_of table body statement word.ThreadIn ds = thread_in_of table ds
 action_of table body statement word.Units ds = one_of (number_at 1 MOST_UNITS) Units ds
+action_of table body statement word.CooperateIn ds = three_of text_at text_at (list_at body) CooperateIn ds
+action_of table body statement word.UnitsIn ds = two_of text_at (number_at 1 MOST_UNITS) UnitsIn ds
+action_of table body statement word.StopCooperator ds = one_of text_at StopCooperator ds
 
 -- an action, whose bodies and statements are read so
 unfoldable pub action_by : List Class → (Data → Option Body) → (Data → Option Statement) → Data → Option Action
@@ -282,6 +289,7 @@ unfoldable pub event_of : List Class → EventWord → Items → Option Event
 event_of table event.Advance ds = one_of (number_at 0 MOST_TICKS) happens.Advance ds
 event_of table event.Drain ds = one_of (number_at 0 MOST_DRAINED) happens.Drain ds
 event_of table event.Expect ds = expect_of table ds
+event_of table event.Repeat ds = None
 
 -- an event that is no action
 unfoldable pub other_event : List Class → Data → Option Event
@@ -299,6 +307,33 @@ event_by None other = other
 unfoldable pub event_at : List Class → Data → Option Event
 event_at table d = event_by (action_at table max_depth d) (other_event table d)
 
+-- how often a repeat of so many times is read: never, where it isn't written out
+abbrev pub times_of : Bool → ℕ → ℕ
+times_of expands n = if expands then n else 0
+
+-- what a repeat stands for, whose events are read so, or else the event
+abbrev pub listed_by : (Items → Option (List Event)) → Bool → Option (ℕ × Items) → Option Event → Option (List Event)
+listed_by inner expands None other = option_map (λ e. e ∷ []) other
+listed_by inner expands (Some r) other = option_map (repeated (times_of expands r.0)) (inner r.1)
+
+-- an item of an array of events, where those of a repeat are read so
+abbrev pub listed_at : (Items → Option (List Event)) → Bool → List Class → Data → Option (List Event)
+listed_at inner expands table d = listed_by inner expands (repeat_at d) (event_at table d)
+
+-- the items in a row, where each is read so
+abbrev pub all_listed : (Data → Option (List Event)) → Items → Option (List Event)
+all_listed at no_items = Some []
+all_listed at (item d ds) = option_and_then (λ es. with_front es (all_listed at ds)) (at d)
+
+-- the items of an array of events, in which repeats nest to so many levels
+unfoldable pub events_at : Bool → List Class → ℕ → Items → Option (List Event)
+events_at expands table zero ds = None
+events_at expands table (suc levels) ds = all_listed (listed_at (events_at expands table levels) expands table) ds
+
+-- an array of events
+abbrev pub events_in : Bool → List Class → Data → Option (List Event)
+events_in expands table d = as_array d >>= events_at expands table max_depth
+
 -- a cooperator
 unfoldable pub cooperator_at : Data → Option Cooperator
 cooperator_at d = do
@@ -306,6 +341,12 @@ cooperator_at d = do
   units ← get (codes "units") d >>= number_at 1 MOST_UNITS
   delay ← get (codes "delay") d >>= number_at 1 MOST_DELAY
   Some (record { units = units; delay = delay })
+
+-- a Cooperator that is named
+unfoldable pub named_cooperator_at : Data → Option NamedCooperator
+named_cooperator_at d = do
+  ds ← as_array d
+  two_of text_at cooperator_at (λ name settings. record { name = name; settings = settings }) ds
 
 -- a pool
 unfoldable pub pool_at : Data → Option NamedPool
@@ -323,19 +364,20 @@ named_body_at table d = do
 abbrev pub caller_at : List Class → Data → Option (List Body)
 caller_at table = list_at (body_at table max_depth)
 
--- a script, with the classes that it declares
-unfoldable pub script_at : Data → Option Draft
-script_at d = do
+-- a script, with the classes that it declares. Where its repeats aren't written out, only its events are others
+unfoldable pub script_by : Bool → Data → Option Draft
+script_by expands d = do
   version ← get (codes "version") d >>= number_at 1 LAST_VERSION
   _ ← fields_at (keys_of version) d
   limit ← field USUAL_LIMIT (number_at 0 (most_limit version)) (get (codes "limit") d)
   cooperator ← field plain_cooperator cooperator_at (get (codes "cooperator") d)
+  cooperators ← field [] (list_at named_cooperator_at) (get (codes "cooperators") d)
   pools ← field [] (list_at pool_at) (get (codes "pools") d)
   declared ← field [] (list_at declaration_at) (get (codes "classes") d)
-  table ← table_for declared
+  table ← table_for version declared
   bodies ← field [] (list_at (named_body_at table.0)) (get (codes "bodies") d)
   callers ← field [] (list_at (caller_at table.0)) (get (codes "callers") d)
-  events ← get (codes "events") d >>= list_at (event_at table.0)
+  events ← get (codes "events") d >>= events_in expands table.0
   Some (record {
     version = version;
     declared = declared;
@@ -344,9 +386,14 @@ script_at d = do
       classes = table.0;
       limit = limit;
       cooperator = cooperator;
+      cooperators = cooperators;
       pools = pools;
       bodies = bodies;
       callers = callers;
       events = events;
     };
   })
+
+-- a script, of which each repeat is written out
+abbrev pub script_at : Data → Option Draft
+script_at = script_by true

@@ -448,7 +448,7 @@ fn alone(alloc: Global, failure: Boxed<Failure>) -> Result<Value, AllocError>
 {
     let mut items = Items::new(alloc);
     items.push(Value::Fault(failure))?;
-    Ok(Value::List(items))
+    Value::list(alloc, items)
 }
 
 /// What an end returns for the present value. A body has no `Trap`, no `Wait` and no `Run`: they

@@ -73,18 +73,23 @@ wording_of (entry.Get name id) = says (codes "get") (Object object.Queue naming.
 wording_of (entry.LaterCall name due) = says (codes "later call") (Object object.Call naming.Made name ∷ Due due ∷ [])
 wording_of (entry.LaterLoop name due) = says (codes "later loop") (Object object.Loop naming.Any name ∷ Due due ∷ [])
 wording_of (entry.LaterTick due) = says (codes "later tick") (Due due ∷ [])
+wording_of (entry.LaterTickIn name due) =
+    says (codes "later tickin") (Object object.Cooperator naming.Any name ∷ Due due ∷ [])
 wording_of (entry.LaterJob job due) = says (codes "later job") (Job job ∷ Due due ∷ [])
 wording_of (entry.LaterTimeout id due) = says (codes "later timeout") (Deferred id ∷ Due due ∷ [])
 wording_of (entry.Uncall name) = says (codes "uncall") (Object object.Call naming.Last name ∷ [])
 wording_of (entry.Reset name due) = says (codes "reset") (Object object.Call naming.Last name ∷ Due due ∷ [])
 wording_of (entry.Call name) = says (codes "call") (Object object.Call naming.Any name ∷ [])
 wording_of entry.Tick = says (codes "tick") []
+wording_of (entry.TickIn name) = says (codes "tickin") (Object object.Cooperator naming.Any name ∷ [])
 wording_of (entry.Deliver job) = says (codes "deliver") (Job job ∷ [])
 wording_of (entry.Timeout id) = says (codes "timeout") (Deferred id ∷ [])
 wording_of (entry.Loop name id) = says (codes "loop") (Object object.Loop naming.Made name ∷ Deferred id ∷ [])
 wording_of (entry.Turn name) = says (codes "turn") (Object object.Loop naming.Any name ∷ [])
 wording_of (entry.Stop name) = says (codes "stop") (Object object.Loop naming.Last name ∷ [])
 wording_of (entry.Task name) = says (codes "task") (Object object.Task naming.Made name ∷ [])
+wording_of (entry.TaskIn name of) =
+    says (codes "taskin") (Object object.Task naming.Made name ∷ Object object.Cooperator naming.Any of ∷ [])
 wording_of (entry.Step name) = says (codes "step") (Object object.Task naming.Any name ∷ [])
 wording_of (entry.Hold name id) = says (codes "hold") (Object object.Task naming.Any name ∷ Deferred id ∷ [])
 wording_of (entry.End name value) = says (codes "end") (Object object.Task naming.Any name ∷ Outcome value ∷ [])
@@ -98,6 +103,9 @@ wording_of entry.Drain = says (codes "drain") []
 wording_of (entry.Post caller index) = says (codes "post") (Number caller ∷ Number index ∷ [])
 wording_of (entry.Body name) = says (codes "body") (Object object.Body naming.Any name ∷ [])
 wording_of (entry.Units units) = says (codes "units") (Number units ∷ [])
+wording_of (entry.UnitsIn name units) =
+    says (codes "unitsin") (Object object.Cooperator naming.Any name ∷ Number units ∷ [])
+wording_of (entry.StopCooperator name) = says (codes "stopcooperator") (Object object.Cooperator naming.Any name ∷ [])
 wording_of (entry.Expect id state) = says (codes "expect") (Deferred id ∷ State state ∷ [])
 wording_of (entry.Unmet id state) = says (codes "unmet") (Deferred id ∷ State state ∷ [])
 wording_of (entry.Unbound name) = says (codes "unbound") (Text name ∷ [])

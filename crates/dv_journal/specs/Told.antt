@@ -23,11 +23,12 @@ pub data Change : Type 0 where
   Unpauses : (d : ℕ) → Change
   Cancels : (d : ℕ) → Change
 
--- what waits for its time: a delayed call of the script, by its name; the cooperator's tick; the delivery of a job's
+-- what waits for its time: a delayed call of the script, by its name; the cooperator's tick, or that of one that the script names; the delivery of a job's
 -- result; a timer of a Deferred. A turn of a loop isn't among these, since a first turn may be taken without waiting
 pub data Timed : Type 0 where
   Called : (name : List ℕ) → Timed
   Ticking : Timed
+  TickingIn : (name : List ℕ) → Timed
   Delivered : (job : ℕ) → Timed
   TimedOut : (d : ℕ) → Timed
 
@@ -74,18 +75,21 @@ told_of (entry.Get name id) = Other
 told_of (entry.LaterCall name due) = Schedules (Called name) due
 told_of (entry.LaterLoop name due) = SchedulesTurn due
 told_of (entry.LaterTick due) = Schedules Ticking due
+told_of (entry.LaterTickIn name due) = Schedules (TickingIn name) due
 told_of (entry.LaterJob job due) = Schedules (Delivered job) due
 told_of (entry.LaterTimeout id due) = Schedules (TimedOut id) due
 told_of (entry.Uncall name) = Ends (Called name)
 told_of (entry.Reset name due) = Reschedules (Called name) due
 told_of (entry.Call name) = Ends (Called name)
 told_of entry.Tick = Ends Ticking
+told_of (entry.TickIn name) = Ends (TickingIn name)
 told_of (entry.Deliver job) = Ends (Delivered job)
 told_of (entry.Timeout id) = Ends (TimedOut id)
 told_of (entry.Loop name id) = Other
 told_of (entry.Turn name) = Other
 told_of (entry.Stop name) = Other
 told_of (entry.Task name) = Other
+told_of (entry.TaskIn name of) = Other
 told_of (entry.Step name) = Other
 told_of (entry.Hold name id) = Other
 told_of (entry.End name value) = Other
@@ -99,6 +103,8 @@ told_of entry.Drain = Other
 told_of (entry.Post caller index) = Other
 told_of (entry.Body name) = Other
 told_of (entry.Units units) = Other
+told_of (entry.UnitsIn name units) = Other
+told_of (entry.StopCooperator name) = Other
 told_of (entry.Expect id state) = Other
 told_of (entry.Unmet id state) = IsUnmet
 told_of (entry.Unbound name) = IsUnmet

@@ -7,7 +7,7 @@ ghost use Rattle.dv_journal.specs.Told.{is_unhandled, is_unmet};
 
 use crate::deferred_id::DeferredId;
 use crate::form::Naming::{Any, Last, Made};
-use crate::form::ObjectKind::{Body, Call, Lock, Loop, Queue, Task};
+use crate::form::ObjectKind::{Body, Call, Cooperator, Lock, Loop, Queue, Task};
 use crate::forms;
 use crate::part::Part::{
     Bound, Deferred, Due, Fired, Job, Name, NewName, Number, Object, Outcome, Time,
@@ -81,6 +81,8 @@ pub enum Entry {
     LaterLoop(Text, u64),
     /// `later tick TIME`: the cooperator's next tick is scheduled, due at that time.
     LaterTick(u64),
+    /// `later tickin W TIME`: the next tick of the cooperator W is scheduled, due at that time.
+    LaterTickIn(Text, u64),
     /// `later job K TIME`: the delivery of a job's result is scheduled, due at that time.
     LaterJob(u32, u64),
     /// `later timeout #N TIME`: a timer is set on a Deferred, due at that time.
@@ -93,6 +95,8 @@ pub enum Entry {
     Call(Text),
     /// `tick`: the cooperator ticks.
     Tick,
+    /// `tickin W`: the cooperator W ticks.
+    TickIn(Text),
     /// `deliver K`: a job's result is delivered.
     Deliver(u32),
     /// `timeout #N`: the time of a timer on a Deferred has come.
@@ -105,6 +109,8 @@ pub enum Entry {
     Stop(Text),
     /// `task T`: a task is added to the cooperator.
     Task(Text),
+    /// `taskin T W`: a task is added to the cooperator W.
+    TaskIn(Text, Boxed<Text>),
     /// `step T`: a task takes a step.
     Step(Text),
     /// `hold T #N`: a step gave a Deferred, and the task is paused until that has come.
@@ -131,6 +137,10 @@ pub enum Entry {
     Body(Text),
     /// `units N`: from its next tick on the cooperator takes so many steps a tick, at most.
     Units(u32),
+    /// `unitsin W N`: from its next tick on the cooperator W takes so many steps a tick, at most.
+    UnitsIn(Text, u32),
+    /// `stopcooperator W`: the cooperator W is stopped.
+    StopCooperator(Text),
     /// `expect #N S`: a Deferred is as the script expects, and S is what has become of it: an
     /// outcome, `unfired`, or `waiting #E`.
     Expect(DeferredId, Boxed<State>),
@@ -222,6 +232,10 @@ impl Entry {
                 Two(Object(Loop, Any, name), Due(*due)),
             ),
             Entry::LaterTick(due) => Line(forms::LATER_TICK, One(Due(*due))),
+            Entry::LaterTickIn(name, due) => Line(
+                forms::LATER_TICK_IN,
+                Two(Object(Cooperator, Any, name), Due(*due)),
+            ),
             Entry::LaterJob(job, due) => Line(forms::LATER_JOB, Two(Job(*job), Due(*due))),
             Entry::LaterTimeout(id, due) => Line(
                 forms::LATER_TIMEOUT,
@@ -231,6 +245,7 @@ impl Entry {
             Entry::Reset(name, due) => Line(forms::RESET, Two(Object(Call, Last, name), Due(*due))),
             Entry::Call(name) => Line(forms::CALL, One(Object(Call, Any, name))),
             Entry::Tick => Line(forms::TICK, Nothing),
+            Entry::TickIn(name) => Line(forms::TICK_IN, One(Object(Cooperator, Any, name))),
             Entry::Deliver(job) => Line(forms::DELIVER, One(Job(*job))),
             Entry::Timeout(id) => Line(forms::TIMEOUT, One(Deferred(*id))),
             Entry::Loop(name, id) => Line(
@@ -240,6 +255,10 @@ impl Entry {
             Entry::Turn(name) => Line(forms::TURN, One(Object(Loop, Any, name))),
             Entry::Stop(name) => Line(forms::STOP, One(Object(Loop, Last, name))),
             Entry::Task(name) => Line(forms::TASK, One(Object(Task, Made, name))),
+            Entry::TaskIn(name, of) => Line(
+                forms::TASK_IN,
+                Two(Object(Task, Made, name), Object(Cooperator, Any, of.get())),
+            ),
             Entry::Step(name) => Line(forms::STEP, One(Object(Task, Any, name))),
             Entry::Hold(name, id) => Line(forms::HOLD, Two(Object(Task, Any, name), Deferred(*id))),
             Entry::End(name, value) => Line(
@@ -259,6 +278,14 @@ impl Entry {
             Entry::Post(caller, index) => Line(forms::POST, Two(Number(*caller), Number(*index))),
             Entry::Body(name) => Line(forms::BODY, One(Object(Body, Any, name))),
             Entry::Units(units) => Line(forms::UNITS, One(Number(*units))),
+            Entry::UnitsIn(name, units) => Line(
+                forms::UNITS_IN,
+                Two(Object(Cooperator, Any, name), Number(*units)),
+            ),
+            Entry::StopCooperator(name) => Line(
+                forms::STOP_COOPERATOR,
+                One(Object(Cooperator, Any, name)),
+            ),
             Entry::Expect(id, state) => Line(
                 forms::EXPECT,
                 Two(Deferred(*id), Part::State(state.get())),

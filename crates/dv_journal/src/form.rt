@@ -12,6 +12,8 @@ pub enum ObjectKind {
     Task,
     /// Bodies that a script declares by name.
     Body,
+    /// Cooperators that a script declares by name.
+    Cooperator,
 }
 
 /// Which object of its kind a name in a line stands for.

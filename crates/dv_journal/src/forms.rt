@@ -5,7 +5,7 @@ ghost use Rattle.dv_journal.specs.Forms.{form_named, form_of};
 ghost use Rattle.dv_journal.specs.declared.entry.Entry.{Entry};
 
 use crate::form::Naming::{Any, Last, Made};
-use crate::form::ObjectKind::{Body, Call, Lock, Loop, Queue, Task};
+use crate::form::ObjectKind::{Body, Call, Cooperator, Lock, Loop, Queue, Task};
 use crate::form::PartKind::{
     Bound, Deferred, Due, Failure, Fired, Job, Name, NewName, Number, Object, Outcome, State, Text,
     Time, Value,
@@ -75,6 +75,8 @@ pub const LATER_LOOP: LineForm = row!("later loop", Plain, Object(Loop, Any), Du
 
 pub const LATER_TICK: LineForm = row!("later tick", NextTick, Due);
 
+pub const LATER_TICK_IN: LineForm = row!("later tickin", NextTick, Object(Cooperator, Any), Due);
+
 pub const LATER_JOB: LineForm = row!("later job", Plain, Job, Due);
 
 pub const LATER_TIMEOUT: LineForm = row!("later timeout", Plain, Deferred, Due);
@@ -87,6 +89,8 @@ pub const CALL: LineForm = row!("call", Due, Object(Call, Any));
 
 pub const TICK: LineForm = row!("tick", Tick);
 
+pub const TICK_IN: LineForm = row!("tickin", Tick, Object(Cooperator, Any));
+
 pub const DELIVER: LineForm = row!("deliver", Due, Job);
 
 pub const TIMEOUT: LineForm = row!("timeout", Due, Deferred);
@@ -98,6 +102,8 @@ pub const TURN: LineForm = row!("turn", Turn, Object(Loop, Any));
 pub const STOP: LineForm = row!("stop", Plain, Object(Loop, Last));
 
 pub const TASK: LineForm = row!("task", Plain, Object(Task, Made));
+
+pub const TASK_IN: LineForm = row!("taskin", Plain, Object(Task, Made), Object(Cooperator, Any));
 
 pub const STEP: LineForm = row!("step", Step, Object(Task, Any));
 
@@ -125,6 +131,10 @@ pub const BODY: LineForm = row!("body", Plain, Object(Body, Any));
 
 pub const UNITS: LineForm = row!("units", Plain, Number);
 
+pub const UNITS_IN: LineForm = row!("unitsin", Plain, Object(Cooperator, Any), Number);
+
+pub const STOP_COOPERATOR: LineForm = row!("stopcooperator", Plain, Object(Cooperator, Any));
+
 pub const EXPECT: LineForm = row!("expect", Plain, Deferred, State);
 
 pub const UNMET: LineForm = row!("unmet", Plain, Deferred, State);
@@ -132,7 +142,7 @@ pub const UNMET: LineForm = row!("unmet", Plain, Deferred, State);
 pub const UNBOUND: LineForm = row!("unbound", Plain, Text);
 
 /// The rows, in the order in which the kinds of entries are declared.
-const LINE_FORMS: [LineForm; 54] = [
+const LINE_FORMS: [LineForm; 59] = [
     NEW,
     NAME,
     ADD,
@@ -159,18 +169,21 @@ const LINE_FORMS: [LineForm; 54] = [
     LATER_CALL,
     LATER_LOOP,
     LATER_TICK,
+    LATER_TICK_IN,
     LATER_JOB,
     LATER_TIMEOUT,
     UNCALL,
     RESET,
     CALL,
     TICK,
+    TICK_IN,
     DELIVER,
     TIMEOUT,
     LOOP,
     TURN,
     STOP,
     TASK,
+    TASK_IN,
     STEP,
     HOLD,
     END,
@@ -184,6 +197,8 @@ const LINE_FORMS: [LineForm; 54] = [
     POST,
     BODY,
     UNITS,
+    UNITS_IN,
+    STOP_COOPERATOR,
     EXPECT,
     UNMET,
     UNBOUND,

@@ -167,6 +167,89 @@ fn write_id_and_outcome(
     write_outcome(alloc, classes, out, value)
 }
 
+/// Adds a word, which ends in ` #`, and the numbers of two Deferreds.
+#[inline(always)]
+fn write_ids(
+    out: &mut String,
+    word: &str,
+    id: DeferredId,
+    other: DeferredId,
+) -> Result<(), AllocError>
+    ensures { OnOk result (string_bytes out.new
+        ≡ string_bytes out.old ++ (word.now ++ decimal id ++ codes " #" ++ decimal other)) }
+{
+    write_id(out, word, id)?;
+    write_id(out, " #", other)
+}
+
+/// Adds a word, which ends in a space, and the name of an object.
+#[inline(always)]
+fn write_object(out: &mut String, word: &str, name: &Text) -> Result<(), AllocError>
+    ensures { OnOk result
+        (string_bytes out.new ≡ string_bytes out.old ++ (word.now ++ name.now)) }
+{
+    write_text(out, word)?;
+    write_text(out, name.as_str())
+}
+
+/// Adds a word, which ends in a space, the name of an object, and the number of a Deferred.
+#[inline(always)]
+fn write_object_and_id(
+    out: &mut String,
+    word: &str,
+    name: &Text,
+    id: DeferredId,
+) -> Result<(), AllocError>
+    ensures { OnOk result (string_bytes out.new
+        ≡ string_bytes out.old ++ (word.now ++ name.now ++ codes " #" ++ decimal id)) }
+{
+    write_object(out, word, name)?;
+    write_id(out, " #", id)
+}
+
+/// Adds the words of the line of an entry that begins with an object, or has no name and no
+/// outcome.
+#[inline(always)]
+fn write_other_words(
+    alloc: Global,
+    classes: &Classes,
+    out: &mut String,
+    entry: &Entry,
+) -> Result<(), AllocError>
+    ensures { OnOk result
+        (string_bytes out.new ≡ string_bytes out.old ++ words_of classes.now entry.now) }
+{
+    if let Entry::Swallow(id) = entry {
+        return write_id(out, "swallow #", *id);
+    }
+    if let Entry::Wait(id, on) = entry {
+        return write_ids(out, "wait #", *id, *on);
+    }
+    if let Entry::Note(text) = entry {
+        write_text(out, "note ")?;
+        return write_string(alloc, out, text.as_str());
+    }
+    if let Entry::Acquire(name, id) = entry {
+        return write_object_and_id(out, "acquire ", name, *id);
+    }
+    if let Entry::Release(name) = entry {
+        return write_object(out, "release ", name);
+    }
+    if let Entry::Get(name, id) = entry {
+        return write_object_and_id(out, "get ", name, *id);
+    }
+    if let Entry::Call(name) = entry {
+        return write_object(out, "call ", name);
+    }
+    if let Entry::Turn(name) = entry {
+        return write_object(out, "turn ", name);
+    }
+    if let Entry::Step(name) = entry {
+        return write_object(out, "step ", name);
+    }
+    write_by_parts(alloc, classes, out, entry)
+}
+
 /// Adds the words of the line of an entry. Those that most lines are of are written at once, which
 /// takes fewer instructions.
 fn write_words(
@@ -196,7 +279,7 @@ fn write_words(
     if let Entry::Set(id, value) = entry {
         return write_id_and_outcome(alloc, classes, out, "set #", *id, value);
     }
-    write_by_parts(alloc, classes, out, entry)
+    write_other_words(alloc, classes, out, entry)
 }
 
 /// Adds the line of an entry. After an error, `out` ends anyhow.

@@ -23,6 +23,7 @@ kind_name of_kind.Call = codes "call"
 kind_name of_kind.Loop = codes "loop"
 kind_name of_kind.Task = codes "task"
 kind_name of_kind.Body = codes "body"
+kind_name of_kind.Cooperator = codes "cooperator"
 
 -- which object of its name it is
 abbrev pub naming_name : Naming → List ℕ

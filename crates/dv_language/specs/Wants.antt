@@ -28,6 +28,7 @@ object_name named.Task = codes "task"
 object_name named.Pool = codes "pool"
 object_name named.Class = codes "class"
 object_name named.Body = codes "body"
+object_name named.Cooperator = codes "cooperator"
 
 -- where a word may stand
 abbrev pub place_name : CallKind → List ℕ

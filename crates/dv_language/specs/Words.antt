@@ -29,7 +29,7 @@ form_data c form =
     (member (codes "where") (places_data c) (member (codes "word") (string form.word) no_members)))))
 
 -- the forms of the words of a place
-abbrev pub rows_of : CallKind → List Data
+unfoldable pub rows_of : CallKind → List Data
 rows_of c = map (form_data c) (own_forms c)
 
 -- the words

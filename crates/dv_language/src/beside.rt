@@ -10,39 +10,44 @@ ghost use Rattle.dv_language.specs.Beside.{refusal_data, refusals_data, status_d
 
 use dv_clock::limits::MOST_TICKS;
 use dv_forms::limits::{WIDEST_BYTES, WIDEST_NODES};
-use dv_forms::versions::WIDE_SINCE;
+use dv_forms::versions::{COOPERATORS_SINCE, WIDE_SINCE};
 use dv_reader::error::{REFUSALS, ScriptFault, refusal_name, refusal_number};
 use dv_script::limits::{
-    MOST_BODIES, MOST_BYTES, MOST_CALLERS, MOST_CLASSES, MOST_LEVELS, MOST_LIMIT, MOST_NODES,
-    MOST_POOLS, MOST_POSTS, USUAL_LIMIT,
+    MOST_BODIES, MOST_BYTES, MOST_CALLERS, MOST_CLASSES, MOST_COOPERATORS, MOST_LEVELS, MOST_LIMIT,
+    MOST_NODES, MOST_POOLS, MOST_POSTS, USUAL_LIMIT,
 };
 use dv_script::work::MOST_JOBS;
 use serde_json::{Value as Json, json, push};
 use std::alloc::{AllocError, Global};
 
-/// The classes that every script has, each after its parent.
-pub const CLASSES: [(&str, Option<&str>); 21] = [
-    ("Exception", None),
-    ("ValueError", Some("Exception")),
-    ("TypeError", Some("Exception")),
-    ("NameError", Some("Exception")),
-    ("AssertionError", Some("Exception")),
-    ("OverflowError", Some("Exception")),
-    ("RuntimeError", Some("Exception")),
-    ("AlreadyCalledError", Some("Exception")),
-    ("CancelledError", Some("Exception")),
-    ("FirstError", Some("Exception")),
-    ("QueueOverflow", Some("Exception")),
-    ("QueueUnderflow", Some("Exception")),
-    ("SchedulerError", Some("Exception")),
-    ("AlreadyCalled", Some("ValueError")),
-    ("AlreadyCancelled", Some("ValueError")),
-    ("TaskFinished", Some("SchedulerError")),
-    ("NotPaused", Some("SchedulerError")),
-    ("TaskDone", Some("TaskFinished")),
-    ("TaskStopped", Some("TaskFinished")),
-    ("TaskFailed", Some("TaskFinished")),
-    ("TimeoutError", Some("Exception")),
+/// The classes that every script has since a version, each after its parent.
+pub const CLASSES: [(&str, Option<&str>, u32); 22] = [
+    ("Exception", None, 1),
+    ("ValueError", Some("Exception"), 1),
+    ("TypeError", Some("Exception"), 1),
+    ("NameError", Some("Exception"), 1),
+    ("AssertionError", Some("Exception"), 1),
+    ("OverflowError", Some("Exception"), 1),
+    ("RuntimeError", Some("Exception"), 1),
+    ("AlreadyCalledError", Some("Exception"), 1),
+    ("CancelledError", Some("Exception"), 1),
+    ("FirstError", Some("Exception"), 1),
+    ("QueueOverflow", Some("Exception"), 1),
+    ("QueueUnderflow", Some("Exception"), 1),
+    ("SchedulerError", Some("Exception"), 1),
+    ("AlreadyCalled", Some("ValueError"), 1),
+    ("AlreadyCancelled", Some("ValueError"), 1),
+    ("TaskFinished", Some("SchedulerError"), 1),
+    ("NotPaused", Some("SchedulerError"), 1),
+    ("TaskDone", Some("TaskFinished"), 1),
+    ("TaskStopped", Some("TaskFinished"), 1),
+    ("TaskFailed", Some("TaskFinished"), 1),
+    ("TimeoutError", Some("Exception"), 1),
+    (
+        "SchedulerStopped",
+        Some("SchedulerError"),
+        COOPERATORS_SINCE,
+    ),
 ];
 
 /// The exit statuses of the program, and when it ends with each.
@@ -67,23 +72,23 @@ const MOST_NAME: u32 = 32;
 
 fn class_json(
     alloc: Global,
-    class: &(&'static str, Option<&'static str>),
+    class: &(&'static str, Option<&'static str>, u32),
 ) -> Result<Json, AllocError>
     ensures { IfOk result (λ json. view json
-        ≡ class_row class.now.0.now (option_map (λ parent. parent.now) class.now.1)) }
+        ≡ class_row class.now.2 class.now.0.now (option_map (λ parent. parent.now) class.now.1)) }
 {
     match class.1 {
-        None => json!(in alloc; {"class": class.0, "parent": null}),
-        Some(parent) => json!(in alloc; {"class": class.0, "parent": parent}),
+        None => json!(in alloc; {"class": class.0, "parent": null, "since": class.2}),
+        Some(parent) => json!(in alloc; {"class": class.0, "parent": parent, "since": class.2}),
     }
 }
 
 fn class_rows(
     alloc: Global,
-    classes: &[(&'static str, Option<&'static str>)],
+    classes: &[(&'static str, Option<&'static str>, u32)],
 ) -> Result<Json, AllocError>
     ensures { IfOk result (λ json. view json ≡ array (items_of (map (λ class.
-        class_row class.0.now (option_map (λ parent. parent.now) class.1)) classes.now))) }
+        class_row class.2 class.0.now (option_map (λ parent. parent.now) class.1)) classes.now))) }
 {
     let mut rows = Vec::new(alloc);
     for class in classes {
@@ -111,6 +116,7 @@ pub fn limits_json(alloc: Global) -> Result<Json, AllocError>
         "classes": MOST_CLASSES,
         "pools": MOST_POOLS,
         "bodies": MOST_BODIES,
+        "cooperators": MOST_COOPERATORS,
         "callers": MOST_CALLERS,
         "posts": MOST_POSTS,
         "time": MOST_TICKS,

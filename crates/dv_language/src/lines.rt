@@ -21,6 +21,7 @@ fn object_name(kind: ObjectKind) -> &'static str
         ObjectKind::Loop => "loop",
         ObjectKind::Task => "task",
         ObjectKind::Body => "body",
+        ObjectKind::Cooperator => "cooperator",
     }
 }
 

@@ -28,6 +28,7 @@ fn object_name(object: Object) -> &'static str
         Object::Pool => "pool",
         Object::Class => "class",
         Object::Body => "body",
+        Object::Cooperator => "cooperator",
     }
 }
 

@@ -3,7 +3,7 @@
 ghost use Rattle.std.specs.Prelude.{◌≡◌, ◌++◌, IfOk, OnOk, map};
 ghost use Rattle.serde_json.specs.View.{view};
 ghost use Rattle.dv_forms.specs.Words.{seen};
-ghost use Rattle.dv_language.specs.Words.{form_data, places_data, words_data};
+ghost use Rattle.dv_language.specs.Words.{form_data, places_data, rows_of, words_data};
 
 use crate::wants::wants_json;
 use dv_forms::want::CallKind;
@@ -57,17 +57,32 @@ fn push_forms<W: Copy>(
     Ok(())
 }
 
+/// Adds the words of a place.
+fn push_words(alloc: Global, rows: &mut Vec<Json>, call: CallKind) -> Result<(), AllocError>
+    ensures { OnOk result (map view rows.new.items ≡ map view rows.old.items ++ rows_of call) }
+{
+    match call {
+        CallKind::Event => push_forms(alloc, rows, call, &EVENT_FORMS),
+        CallKind::Action => push_forms(alloc, rows, call, &ACTION_FORMS),
+        CallKind::Statement => push_forms(alloc, rows, call, &STATEMENT_FORMS),
+        CallKind::Leaving => push_forms(alloc, rows, call, &LEAVING_FORMS),
+        CallKind::End => push_forms(alloc, rows, call, &END_FORMS),
+        CallKind::Work => push_forms(alloc, rows, call, &WORK_FORMS),
+        CallKind::Outcome => push_forms(alloc, rows, call, &OUTCOME_FORMS),
+    }
+}
+
 /// The words, those of each place together.
 pub fn words_json(alloc: Global) -> Result<Json, AllocError>
     ensures { IfOk result (λ json. view json ≡ words_data) }
 {
     let mut rows = Vec::new(alloc);
-    push_forms(alloc, &mut rows, CallKind::Event, &EVENT_FORMS)?;
-    push_forms(alloc, &mut rows, CallKind::Action, &ACTION_FORMS)?;
-    push_forms(alloc, &mut rows, CallKind::Statement, &STATEMENT_FORMS)?;
-    push_forms(alloc, &mut rows, CallKind::Leaving, &LEAVING_FORMS)?;
-    push_forms(alloc, &mut rows, CallKind::End, &END_FORMS)?;
-    push_forms(alloc, &mut rows, CallKind::Work, &WORK_FORMS)?;
-    push_forms(alloc, &mut rows, CallKind::Outcome, &OUTCOME_FORMS)?;
+    push_words(alloc, &mut rows, CallKind::Event)?;
+    push_words(alloc, &mut rows, CallKind::Action)?;
+    push_words(alloc, &mut rows, CallKind::Statement)?;
+    push_words(alloc, &mut rows, CallKind::Leaving)?;
+    push_words(alloc, &mut rows, CallKind::End)?;
+    push_words(alloc, &mut rows, CallKind::Work)?;
+    push_words(alloc, &mut rows, CallKind::Outcome)?;
     Ok(Json::Array(rows))
 }

@@ -1,10 +1,12 @@
 -- What an entry aside logs about tasks, locks, queues and loops.
-use Rattle.std.specs.Prelude.{◌≡◌, ℕ, true, false, List, [], ◌∷◌, ◌++◌, Option, None, Some, slice_get, slice_set}
-use Rattle.dv_clock.specs.Turns.{turn_of}
+use Rattle.std.specs.Prelude.{◌≡◌, ℕ, zero, suc, true, false, List, [], ◌∷◌, ◌++◌, Option, None, Some, map, slice_get}
+use Rattle.std.specs.Prelude.{slice_set}
+use Rattle.std.proofs.Common.{refl, ap, ◌∙◌}
+use Rattle.dv_clock.specs.Turns.{Turns}
 use Rattle.dv_journal.specs.declared.entry.Entry.{Entry}
 use Rattle.dv_journal.specs.declared.entry.Entry.TheVariants as entry
-use Rattle.dv_objects.specs.Cooperator.{Cooperator, with_new_task, with_step, with_pause, with_resume, with_end}
-use Rattle.dv_objects.specs.Cooperator.{with_waiting, result_of}
+use Rattle.dv_objects.specs.Cooperator.{Cooperator, Cooperators, all_changed, turn_in, with_new_task, with_step}
+use Rattle.dv_objects.specs.Cooperator.{with_pause, with_resume, with_end, with_waiting, result_of}
 use Rattle.dv_objects.specs.Objects.{Objects}
 use Rattle.dv_objects.specs.declared.task.Task.{Task}
 use Rattle.dv_objects.specs.declared.task.TaskEnd.{TaskEnd}
@@ -20,12 +22,35 @@ use Rattle.dv_laws.specs.Stored.{queueing_of, Unqueued}
 use Rattle.dv_laws.specs.Tasks.{tasking_of, Untasked}
 use Rattle.dv_laws.specs.Tokens.{holding_of, Unheld}
 
+-- who takes turns, in each Cooperator
+abbrev pub all_turns : List Cooperator → List Turns
+all_turns all = map (λ (one : Cooperator). one.turns) all
+
+-- a Cooperator that changes otherwise, by whether it is the first of these or is found among the others
+later_changes : (k : ℕ) (change : Cooperator → Cooperator) (o : Option Cooperator) (one : Cooperator)
+    (all : List Cooperator) → all_changed (suc k) change o (one ∷ all) ≡ one ∷ all_changed k change o all
+later_changes k change None one all = refl
+later_changes k change (Some found) one all = refl
+
+-- it leaves who takes turns
+pub turns_stay : (k : ℕ) (change : Cooperator → Cooperator) (all : List Cooperator)
+    → ((one : Cooperator) → (change one).turns ≡ one.turns)
+    → all_turns (all_changed k change (slice_get all k) all) ≡ all_turns all
+turns_stay k change [] same = refl
+turns_stay zero change (one ∷ all) same = ap (λ (turns : Turns). turns ∷ all_turns all) (same one)
+turns_stay (suc k) change (one ∷ all) same =
+    ap all_turns (later_changes k change (slice_get all k) one all)
+    ∙ ap (λ (turns : List Turns). one.turns ∷ turns) (turns_stay k change all same)
+
 -- tasks stay, or one is made, takes a step, or ends, which is logged, or is paused, resumed or awaited
-pub data Tasks (e : Entry) (c : Cooperator) : Cooperator → Type 0 where
-  TasksRest : (new : Cooperator) → tasking_of e ≡ Untasked → new.tasks ≡ c.tasks → new.turns ≡ c.turns → Tasks e c new
-  TaskMade : (name : List ℕ) (bodies : List Body) → e ≡ entry.Task name → Tasks e c (with_new_task name bodies c)
-  TaskSteps : (t : ℕ) (x : Task) → turn_of c.turns ≡ Some t → slice_get c.tasks t ≡ Some x → e ≡ entry.Step x.name
-      → Tasks e c (with_step t x c)
+pub data Tasks (e : Entry) (c : Cooperators) : Cooperators → Type 0 where
+  TasksRest : (new : Cooperators) → tasking_of e ≡ Untasked → new.tasks ≡ c.tasks → all_turns new.all ≡ all_turns c.all
+      → Tasks e c new
+  TaskMade : (name : List ℕ) (bodies : List Body) → e ≡ entry.Task name → Tasks e c (with_new_task 0 name bodies c)
+  TaskMadeIn : (k : ℕ) (name of : List ℕ) (bodies : List Body) → e ≡ entry.TaskIn name of
+      → Tasks e c (with_new_task k name bodies c)
+  TaskSteps : (k t : ℕ) (x : Task) → turn_in (slice_get c.all k) ≡ Some t → slice_get c.tasks t ≡ Some x
+      → e ≡ entry.Step x.name → Tasks e c (with_step t x c)
   TaskEnds : (t : ℕ) (end : TaskEnd) (x : Task) → slice_get c.tasks t ≡ Some x → x.end ≡ None
       → e ≡ entry.End x.name (result_of x.name end) → Tasks e c (with_end t end x c)
   TaskPaused : (t : ℕ) (x : Task) → slice_get c.tasks t ≡ Some x → tasking_of e ≡ Untasked
@@ -71,18 +96,18 @@ pub data Loops (e : Entry) (clock : Clock) (old : List LoopingCall) : List Loopi
       → y.interval ≡ x.interval → e ≡ entry.LaterLoop x.name (next_due x clock) → Loops e clock old (slice_set old l y)
 
 pub record Beside (e : Entry) (old new : Objects) : Type 0 where
-  pub tasks : Tasks e old.cooperator new.cooperator
+  pub tasks : Tasks e old.cooperators new.cooperators
   pub locks : Locks e old.semaphores new.semaphores
   pub queues : Queues e old.queues new.queues
   pub loops : Loops e old.clock old.loops new.loops
 
 -- nothing of them changes, and nothing is logged of them
 pub resting : (e : Entry) (old new : Objects) → tasking_of e ≡ Untasked → holding_of e ≡ Unheld
-    → queueing_of e ≡ Unqueued → looping_of e ≡ Unlooped → new.cooperator.tasks ≡ old.cooperator.tasks
-    → new.cooperator.turns ≡ old.cooperator.turns → new.semaphores ≡ old.semaphores → new.queues ≡ old.queues
-    → new.loops ≡ old.loops → Beside e old new
+    → queueing_of e ≡ Unqueued → looping_of e ≡ Unlooped → new.cooperators.tasks ≡ old.cooperators.tasks
+    → all_turns new.cooperators.all ≡ all_turns old.cooperators.all → new.semaphores ≡ old.semaphores
+    → new.queues ≡ old.queues → new.loops ≡ old.loops → Beside e old new
 resting e old new a b c d p q r s t = record {
-  tasks = TasksRest new.cooperator a p q;
+  tasks = TasksRest new.cooperators a p q;
   locks = LocksRest new.semaphores b r;
   queues = QueuesRest new.queues c s;
   loops = LoopsRest new.loops d (SameLoops new.loops t);
@@ -98,15 +123,15 @@ pub data QueuesKept (old : List Queue) : List Queue → Type 0 where
   QueueForgets : (k d : ℕ) (q : Queue) → slice_get old k ≡ Some q → QueuesKept old (slice_set old k (withdrawn d q))
 
 pub record Arranged (old new : Objects) : Type 0 where
-  pub tasks : new.cooperator.tasks ≡ old.cooperator.tasks
-  pub turns : new.cooperator.turns ≡ old.cooperator.turns
+  pub tasks : new.cooperators.tasks ≡ old.cooperators.tasks
+  pub turns : all_turns new.cooperators.all ≡ all_turns old.cooperators.all
   pub locks : LocksKept old.semaphores new.semaphores
   pub queues : QueuesKept old.queues new.queues
   pub loops : LoopsKept old.loops new.loops
 
-pub arranging : (old new : Objects) → new.cooperator.tasks ≡ old.cooperator.tasks
-    → new.cooperator.turns ≡ old.cooperator.turns → new.semaphores ≡ old.semaphores → new.queues ≡ old.queues
-    → new.loops ≡ old.loops → Arranged old new
+pub arranging : (old new : Objects) → new.cooperators.tasks ≡ old.cooperators.tasks
+    → all_turns new.cooperators.all ≡ all_turns old.cooperators.all → new.semaphores ≡ old.semaphores
+    → new.queues ≡ old.queues → new.loops ≡ old.loops → Arranged old new
 arranging old new p q r s t = record {
   tasks = p;
   turns = q;

@@ -16,7 +16,7 @@ use Rattle.dv_clock.specs.declared.limits.TheConstants.{MOST_TICKS}
 use Rattle.dv_clock.proofs.ClockLemmas.{first_runs_next}
 use Rattle.dv_journal.specs.declared.entry.Entry.{Entry}
 use Rattle.dv_journal.specs.declared.entry.Entry.TheVariants as entry
-use Rattle.dv_journal.specs.Told.{Timed, Called, Ticking, Delivered, TimedOut}
+use Rattle.dv_journal.specs.Told.{Timed, Called, Ticking, TickingIn, Delivered, TimedOut}
 use Rattle.dv_objects.specs.Objects.{Objects, naming_where}
 use Rattle.dv_objects.specs.Refusals.{cancelled}
 use Rattle.dv_posts.specs.Batches.{Batch}
@@ -39,6 +39,7 @@ abbrev pub timed_of : Due → Option Timed
 timed_of (what.Call name key) = Some (Called name)
 timed_of (what.Turn name key) = None
 timed_of what.Tick = Some Ticking
+timed_of (what.TickIn name k) = Some (TickingIn name)
 timed_of (what.Delivery job key) = Some (Delivered job)
 timed_of (what.Timeout d) = Some (TimedOut d)
 
@@ -46,6 +47,7 @@ scheduling_is : (due_for : Due) (due : ℕ) → scheduled_by (scheduling due_for
 scheduling_is (what.Call name key) due = refl
 scheduling_is (what.Turn name key) due = refl
 scheduling_is what.Tick due = refl
+scheduling_is (what.TickIn name k) due = refl
 scheduling_is (what.Delivery job key) due = refl
 scheduling_is (what.Timeout d) due = refl
 
@@ -53,6 +55,7 @@ pub scheduling_ends : (due_for : Due) (due : ℕ) → ended_by (scheduling due_f
 scheduling_ends (what.Call name key) due = refl
 scheduling_ends (what.Turn name key) due = refl
 scheduling_ends what.Tick due = refl
+scheduling_ends (what.TickIn name k) due = refl
 scheduling_ends (what.Delivery job key) due = refl
 scheduling_ends (what.Timeout d) due = refl
 
@@ -60,6 +63,7 @@ scheduling_time : (time : ℕ) (due_for : Due) (due : ℕ) → time_after time (
 scheduling_time time (what.Call name key) due = refl
 scheduling_time time (what.Turn name key) due = refl
 scheduling_time time what.Tick due = refl
+scheduling_time time (what.TickIn name k) due = refl
 scheduling_time time (what.Delivery job key) due = refl
 scheduling_time time (what.Timeout d) due = refl
 
@@ -67,6 +71,7 @@ coming_schedules : (due_for : Due) → scheduled_by (entry_when_due due_for) ≡
 coming_schedules (what.Call name key) = refl
 coming_schedules (what.Turn name key) = refl
 coming_schedules what.Tick = refl
+coming_schedules (what.TickIn name k) = refl
 coming_schedules (what.Delivery job key) = refl
 coming_schedules (what.Timeout d) = refl
 
@@ -74,6 +79,7 @@ pub coming_is : (due_for : Due) → ended_by (entry_when_due due_for) ≡ timed_
 coming_is (what.Call name key) = refl
 coming_is (what.Turn name key) = refl
 coming_is what.Tick = refl
+coming_is (what.TickIn name k) = refl
 coming_is (what.Delivery job key) = refl
 coming_is (what.Timeout d) = refl
 
@@ -81,24 +87,28 @@ coming_time : (due_for : Due) → timing_of (entry_when_due due_for) ≡ Untimed
 coming_time (what.Call name key) = refl
 coming_time (what.Turn name key) = refl
 coming_time what.Tick = refl
+coming_time (what.TickIn name k) = refl
 coming_time (what.Delivery job key) = refl
 coming_time (what.Timeout d) = refl
 
 pub run_ends : (t : Timed) → ended_by (run_of t) ≡ Some t
 run_ends (Called name) = refl
 run_ends Ticking = refl
+run_ends (TickingIn name) = refl
 run_ends (Delivered job) = refl
 run_ends (TimedOut d) = refl
 
 pub not_uncalled : (name : List ℕ) (t : Timed) (P : Type 0) → entry.Uncall name ≡ run_of t → P
 not_uncalled name (Called other) P q = absurd cc
 not_uncalled name Ticking P q = absurd cc
+not_uncalled name (TickingIn other) P q = absurd cc
 not_uncalled name (Delivered job) P q = absurd cc
 not_uncalled name (TimedOut d) P q = absurd cc
 
 pub not_reset : (name : List ℕ) (due : ℕ) (t : Timed) (P : Type 0) → entry.Reset name due ≡ run_of t → P
 not_reset name due (Called other) P q = absurd cc
 not_reset name due Ticking P q = absurd cc
+not_reset name due (TickingIn other) P q = absurd cc
 not_reset name due (Delivered job) P q = absurd cc
 not_reset name due (TimedOut d) P q = absurd cc
 
@@ -108,6 +118,7 @@ pub later_is : (due_for : Due) (due : ℕ) (t : Timed) → timed_of due_for ≡ 
 later_is (what.Call name key) due t q = let same : Called name ≡ t = cc in ap (λ x. later_of x due) same
 later_is (what.Turn name key) due t q = absurd (none-some t q)
 later_is what.Tick due t q = let same : Ticking ≡ t = cc in ap (λ x. later_of x due) same
+later_is (what.TickIn name k) due t q = let same : TickingIn name ≡ t = cc in ap (λ x. later_of x due) same
 later_is (what.Delivery job key) due t q = let same : Delivered job ≡ t = cc in ap (λ x. later_of x due) same
 later_is (what.Timeout d) due t q = let same : TimedOut d ≡ t = cc in ap (λ x. later_of x due) same
 
@@ -126,6 +137,7 @@ abbrev pub name_of : Due → Option (List ℕ)
 name_of (what.Call name key) = Some name
 name_of (what.Turn name key) = None
 name_of what.Tick = None
+name_of (what.TickIn name k) = None
 name_of (what.Delivery job key) = None
 name_of (what.Timeout d) = None
 
@@ -134,6 +146,7 @@ pub named_is : (due_for : Due) (name : List ℕ) (t : Timed) → name_of due_for
 named_is (what.Call own key) name t p q = cc
 named_is (what.Turn own key) name t p q = absurd (none-some name p)
 named_is what.Tick name t p q = absurd (none-some name p)
+named_is (what.TickIn own k) name t p q = absurd (none-some name p)
 named_is (what.Delivery job key) name t p q = absurd (none-some name p)
 named_is (what.Timeout d) name t p q = absurd (none-some name p)
 

@@ -9,7 +9,6 @@ use Rattle.dv_prims.specs.DeferredList.{Gather, child_fired}
 use Rattle.dv_prims.specs.Tokens.{Semaphore, has_free, is_unheld, first_waiting}
 use Rattle.dv_clock.specs.Clock.{Upcoming, next_call, new_due}
 use Rattle.dv_clock.specs.Due.{entry_when_due}
-use Rattle.dv_clock.specs.Turns.{turn_of}
 use Rattle.dv_clock.specs.declared.call.Call.{Call}
 use Rattle.dv_clock.specs.declared.call.CallState.{CallState}
 use Rattle.dv_clock.specs.declared.call.CallState.TheVariants as call_state
@@ -19,14 +18,16 @@ use Rattle.dv_clock.specs.declared.due.Due.{Due}
 use Rattle.dv_clock.specs.declared.due.Due.TheVariants as what
 use Rattle.dv_script.specs.declared.body.Body as body_of
 use Rattle.dv_journal.specs.Told.{change_of, Aside}
+use Rattle.dv_clock.specs.Due.{scheduling}
 use Rattle.dv_world.specs.World.{World, step, append, fire, cancel, pause, unpause, make, aside, arrange}
 use Rattle.dv_world.specs.World.{child_fired_found, child_fired_in, take_due_found, waiting_cancelled, state_cancelled}
 use Rattle.dv_world.specs.World.{call_cancelled, cancel_call, waiting_reset, state_reset, call_reset, reset_call}
 use Rattle.dv_world.specs.World.{start_timer, turn_scheduled, loop_stopped, end_loop, task_told, task_ended}
-use Rattle.dv_world.specs.World.{tick_dropped, keep_tick, step_taken, turn_taken, resume_inline, end_await, submit}
-use Rattle.dv_world.specs.World.{deliver_later}
+use Rattle.dv_world.specs.World.{tick_dropped, tick_kept, cooperator_of, keep_tick, step_taken, turn_taken}
+use Rattle.dv_world.specs.World.{resume_inline, end_await, submit, deliver_later}
 use Rattle.dv_script.specs.declared.work.Work.{Work}
-use Rattle.dv_objects.specs.Cooperator.{Cooperator, with_step, result_of, unended, wants_tick, idle_tick}
+use Rattle.dv_objects.specs.Cooperator.{Cooperator, Cooperators, changed, halted, with_units, with_step, result_of}
+use Rattle.dv_objects.specs.Cooperator.{unended, wants_tick, idle_tick, tick_of, turn_in}
 use Rattle.dv_objects.specs.Objects.{Objects, with_list, with_ended_call, with_moved_call, cooperating}
 use Rattle.dv_objects.specs.Objects.{inlining}
 use Rattle.dv_objects.specs.Inlines.{resume_at, end_adding}
@@ -48,7 +49,8 @@ use Rattle.dv_laws.specs.Tasks.{Untasked, tasking_of}
 use Rattle.dv_laws.specs.Tokens.{Holding, Unheld, MakesTokens, AsksOf, ReleasesOf, holding_of}
 use Rattle.dv_objects.specs.Objects.{naming}
 use Rattle.dv_laws.proofs.Beside as beside
-use Rattle.dv_laws.proofs.Beside.{Tasks, Locks, Queues, Loops, Beside, Arranged, resting, arranging}
+use Rattle.dv_laws.proofs.Beside.{all_turns, turns_stay, Tasks, Locks, Queues, Loops, Beside, Arranged, resting}
+use Rattle.dv_laws.proofs.Beside.{arranging}
 use Rattle.dv_laws.proofs.Clocks.{IsPlain, Clocks, Leaves, Adds, Runs, Cancels, Moves, Drops, Arranges, Stays, Loses}
 use Rattle.std.specs.Prelude.{min}
 use Rattle.dv_clock.specs.declared.limits.TheConstants.{MOST_DELAY}
@@ -242,8 +244,8 @@ first_comes true t u w c d = c
 first_comes false t u w c d = d
 
 -- what is logged of a task alone, of a lock alone, of a queue alone, and of a loop alone
-task_beside : (e : Entry) (old : Objects) (new : Cooperator) → Tasks e old.cooperator new → holding_of e ≡ Unheld
-    → queueing_of e ≡ Unqueued → looping_of e ≡ Unlooped → Beside e old (record old { cooperator = new })
+task_beside : (e : Entry) (old : Objects) (new : Cooperators) → Tasks e old.cooperators new → holding_of e ≡ Unheld
+    → queueing_of e ≡ Unqueued → looping_of e ≡ Unlooped → Beside e old (record old { cooperators = new })
 task_beside e old new t a b c = record {
   tasks = t;
   locks = beside.LocksRest _ a refl;
@@ -252,10 +254,10 @@ task_beside e old new t a b c = record {
 }
 
 pub lock_beside : (e : Entry) (old : Objects) (new : Objects) → Locks e old.semaphores new.semaphores
-    → tasking_of e ≡ Untasked → queueing_of e ≡ Unqueued → looping_of e ≡ Unlooped → new.cooperator ≡ old.cooperator
+    → tasking_of e ≡ Untasked → queueing_of e ≡ Unqueued → looping_of e ≡ Unlooped → new.cooperators ≡ old.cooperators
     → new.queues ≡ old.queues → new.loops ≡ old.loops → Beside e old new
 lock_beside e old new t a b c p q r = record {
-  tasks = beside.TasksRest _ a (ap (λ (c : Cooperator). c.tasks) p) (ap (λ (c : Cooperator). c.turns) p);
+  tasks = beside.TasksRest _ a (ap (λ (c : Cooperators). c.tasks) p) (ap (λ (c : Cooperators). all_turns c.all) p);
   locks = t;
   queues = beside.QueuesRest _ b q;
   loops = beside.LoopsRest _ c (beside.SameLoops _ r);
@@ -263,20 +265,20 @@ lock_beside e old new t a b c p q r = record {
 
 pub queue_beside : (e : Entry) (old : Objects) (new : Objects) → Queues e old.queues new.queues
     → tasking_of e ≡ Untasked
-    → holding_of e ≡ Unheld → looping_of e ≡ Unlooped → new.cooperator ≡ old.cooperator
+    → holding_of e ≡ Unheld → looping_of e ≡ Unlooped → new.cooperators ≡ old.cooperators
     → new.semaphores ≡ old.semaphores → new.loops ≡ old.loops → Beside e old new
 queue_beside e old new t a b c p q r = record {
-  tasks = beside.TasksRest _ a (ap (λ (c : Cooperator). c.tasks) p) (ap (λ (c : Cooperator). c.turns) p);
+  tasks = beside.TasksRest _ a (ap (λ (c : Cooperators). c.tasks) p) (ap (λ (c : Cooperators). all_turns c.all) p);
   locks = beside.LocksRest _ b q;
   queues = t;
   loops = beside.LoopsRest _ c (beside.SameLoops _ r);
 }
 
 loop_beside : (e : Entry) (old : Objects) (new : Objects) → Loops e old.clock old.loops new.loops
-    → tasking_of e ≡ Untasked → holding_of e ≡ Unheld → queueing_of e ≡ Unqueued → new.cooperator ≡ old.cooperator
+    → tasking_of e ≡ Untasked → holding_of e ≡ Unheld → queueing_of e ≡ Unqueued → new.cooperators ≡ old.cooperators
     → new.semaphores ≡ old.semaphores → new.queues ≡ old.queues → Beside e old new
 loop_beside e old new t a b c p q r = record {
-  tasks = beside.TasksRest _ a (ap (λ (c : Cooperator). c.tasks) p) (ap (λ (c : Cooperator). c.turns) p);
+  tasks = beside.TasksRest _ a (ap (λ (c : Cooperators). c.tasks) p) (ap (λ (c : Cooperators). all_turns c.all) p);
   locks = beside.LocksRest _ b q;
   queues = beside.QueuesRest _ c r;
   loops = t;
@@ -353,7 +355,7 @@ end_loop_comes l w =
     (loop_arranged l (slice_get w.objects.loops l) w.objects refl)
     (ended_names l (slice_get w.objects.loops l) w.objects)
 
-told_task_comes : (e : Task → Entry) (change : Task → Cooperator → Cooperator) (o : Option Task) (w : World)
+told_task_comes : (e : Task → Entry) (change : Task → Cooperators → Cooperators) (o : Option Task) (w : World)
     → ((x : Task) → change_of (e x) ≡ Aside) → ((x : Task) → LeavesLines (e x))
     → ((x : Task) → IsPlain (e x))
     → ((x : Task) → o ≡ Some x → Beside (e x) w.objects (cooperating (change x) w.objects))
@@ -362,23 +364,40 @@ told_task_comes e change None w a l t k = same w
 told_task_comes e change (Some x) w a l t k =
     by_aside (e x) (cooperating (change x)) w (a x) (l x) (λ r. Leaves (t x)) (λ r. r) (k x refl) refl
 
-dropped_comes : (o : Option ℕ) (w : World) → Quietly w (tick_dropped o w)
-dropped_comes None w = same w
-dropped_comes (Some number) w =
-    by_arrange (without_tick number) w (refl, refl) (Loses number) (λ k. k)
-    (arranging _ _ refl refl refl refl refl) refl
+dropped_comes : (k : ℕ) (o : Option ℕ) (w : World) → Quietly w (tick_dropped k o w)
+dropped_comes k None w = same w
+dropped_comes k (Some number) w =
+    by_arrange (without_tick k number) w (refl, refl) (Loses number) (λ r. r)
+    (arranging _ _ refl (turns_stay k (λ one. record one { tick = None }) w.objects.cooperators.all (λ one. refl))
+    refl refl refl) refl
 
-later_comes : (w : World) → Quietly w (schedule_tick w)
-later_comes w =
-    by_aside (entry.LaterTick (w.objects.clock.time + w.objects.cooperator.delay))
-    (with_tick (w.objects.clock.time + w.objects.cooperator.delay)) w refl (tt, tt)
-    (λ k. Adds what.Tick _ refl (omega arith))
-    (λ k. k) (resting _ _ _ refl refl refl refl refl refl refl refl refl) refl
+scheduled_stay : (k : ℕ) (w : World)
+    → all_turns (changed k (λ one. record one { tick = Some (length w.objects.clock.calls) }) w.objects.cooperators).all
+    ≡ all_turns w.objects.cooperators.all
+scheduled_stay k w =
+    turns_stay k (λ one. record one { tick = Some (length w.objects.clock.calls) }) w.objects.cooperators.all
+    (λ one. refl)
 
-keep_comes : (w u : World) → Quietly w u → Quietly w (keep_tick u)
-keep_comes w u c =
-    join w u _ c (one_comes (wants_tick u.objects.cooperator) u _ _ (later_comes u)
-    (dropped_comes (idle_tick u.objects.cooperator) u))
+scheduled_tick_comes : (name : Option (List ℕ)) (k due : ℕ) (w : World) → w.objects.clock.time ≤ due
+    → Quietly w (aside (scheduling (tick_of name k) due) (with_tick k (tick_of name k) due) w)
+scheduled_tick_comes None k due w h =
+    by_aside (entry.LaterTick due) (with_tick k what.Tick due) w refl (tt, tt) (λ r. Adds what.Tick due refl h)
+    (λ r. r) (resting _ _ _ refl refl refl refl refl (scheduled_stay k w) refl refl refl) refl
+scheduled_tick_comes (Some name) k due w h =
+    by_aside (entry.LaterTickIn name due) (with_tick k (what.TickIn name k) due) w refl (tt, tt)
+    (λ r. Adds (what.TickIn name k) due refl h)
+    (λ r. r) (resting _ _ _ refl refl refl refl refl (scheduled_stay k w) refl refl refl) refl
+
+later_comes : (k : ℕ) (c : Cooperator) (w : World) → Quietly w (schedule_tick k c w)
+later_comes k c w = scheduled_tick_comes c.name k (w.objects.clock.time + c.delay) w (omega arith)
+
+kept_comes : (k : ℕ) (o : Option Cooperator) (w : World) → Quietly w (tick_kept k o w)
+kept_comes k None w = same w
+kept_comes k (Some c) w =
+    one_comes (wants_tick c) w _ _ (later_comes k c w) (dropped_comes k (idle_tick c) w)
+
+keep_comes : (k : ℕ) (w u : World) → Quietly w u → Quietly w (keep_tick k u)
+keep_comes k w u c = join w u _ c (kept_comes k (cooperator_of k u) u)
 
 unended_by : (o : Option TaskEnd) (x y : Task) → y.end ≡ o → (if is_some o then None else Some y) ≡ Some x
     → (y ≡ x) × (x.end ≡ None)
@@ -390,10 +409,10 @@ unended_is None x q = absurd cc
 unended_is (Some y) x q = let found = unended_by y.end x y refl q in (ap Some found.0, found.1)
 
 task_ended_comes : (t : ℕ) (end : TaskEnd) (o : Option Task) (w : World)
-    → unended (slice_get w.objects.cooperator.tasks t) ≡ o → Quietly w (task_ended t end o w).1
+    → unended (slice_get w.objects.cooperators.tasks t) ≡ o → Quietly w (task_ended t end o w).1
 task_ended_comes t end None w h = same w
 task_ended_comes t end (Some x) w h =
-    let found = unended_is (slice_get w.objects.cooperator.tasks t) x h in
+    let found = unended_is (slice_get w.objects.cooperators.tasks t) x h in
     by_aside (entry.End x.name (result_of x.name end)) _ w refl (tt, tt) (λ k. Leaves (refl, refl, refl)) (λ k. k)
     (task_beside _ _ _ (beside.TaskEnds t end x found.0 found.1 refl) refl refl refl) refl
 
@@ -419,6 +438,7 @@ waiting_comes number at (what.Call name key) w h =
     (λ k. Cancels number at name key h refl) (λ k. k) (resting _ _ _ refl refl refl refl refl refl refl refl refl) refl
 waiting_comes number at (what.Turn name key) w h = same w
 waiting_comes number at what.Tick w h = same w
+waiting_comes number at (what.TickIn name k) w h = same w
 waiting_comes number at (what.Delivery job key) w h = same w
 waiting_comes number at (what.Timeout d) w h = same w
 
@@ -456,6 +476,7 @@ waiting_anew number from delay at (what.Call name key) w h =
     (resting _ _ _ refl refl refl refl refl refl refl refl refl) refl
 waiting_anew number from delay at (what.Turn name key) w h = same w
 waiting_anew number from delay at what.Tick w h = same w
+waiting_anew number from delay at (what.TickIn name k) w h = same w
 waiting_anew number from delay at (what.Delivery job key) w h = same w
 waiting_anew number from delay at (what.Timeout d) w h = same w
 
@@ -504,6 +525,7 @@ due_aside : (due : Due) → change_of (entry_when_due due) ≡ Aside
 due_aside (what.Call name key) = refl
 due_aside (what.Turn name key) = refl
 due_aside what.Tick = refl
+due_aside (what.TickIn name k) = refl
 due_aside (what.Delivery job key) = refl
 due_aside (what.Timeout d) = refl
 
@@ -511,6 +533,7 @@ due_untasked : (due : Due) → tasking_of (entry_when_due due) ≡ Untasked
 due_untasked (what.Call name key) = refl
 due_untasked (what.Turn name key) = refl
 due_untasked what.Tick = refl
+due_untasked (what.TickIn name k) = refl
 due_untasked (what.Delivery job key) = refl
 due_untasked (what.Timeout d) = refl
 
@@ -518,6 +541,7 @@ due_unheld : (due : Due) → holding_of (entry_when_due due) ≡ Unheld
 due_unheld (what.Call name key) = refl
 due_unheld (what.Turn name key) = refl
 due_unheld what.Tick = refl
+due_unheld (what.TickIn name k) = refl
 due_unheld (what.Delivery job key) = refl
 due_unheld (what.Timeout d) = refl
 
@@ -525,6 +549,7 @@ due_unqueued : (due : Due) → queueing_of (entry_when_due due) ≡ Unqueued
 due_unqueued (what.Call name key) = refl
 due_unqueued (what.Turn name key) = refl
 due_unqueued what.Tick = refl
+due_unqueued (what.TickIn name k) = refl
 due_unqueued (what.Delivery job key) = refl
 due_unqueued (what.Timeout d) = refl
 
@@ -535,6 +560,7 @@ due_unlooped : (due : Due) → looping_of (entry_when_due due) ≡ Unlooped
 due_unlooped (what.Call name key) = refl
 due_unlooped (what.Turn name key) = refl
 due_unlooped what.Tick = refl
+due_unlooped (what.TickIn name k) = refl
 due_unlooped (what.Delivery job key) = refl
 due_unlooped (what.Timeout d) = refl
 
@@ -633,26 +659,42 @@ step_quiet (steps.EndLoop l) w m = end_loop_comes l w
 step_quiet (steps.NewTask name bodies) w m =
     by_aside (entry.Task name) _ w refl (tt, tt) (λ k. Leaves (refl, refl, refl)) (λ k. k)
     (task_beside _ _ _ (beside.TaskMade name bodies refl) refl refl refl) refl
+step_quiet (steps.NewTaskIn k name of bodies) w m =
+    by_aside (entry.TaskIn name of) _ w refl (tt, tt) (λ k. Leaves (refl, refl, refl)) (λ k. k)
+    (task_beside _ _ _ (beside.TaskMadeIn k name of bodies refl) refl refl refl) refl
 step_quiet (steps.AwaitTask t d) w m =
-    told_task_comes (λ x. entry.WhenDone x.name d) _ (slice_get w.objects.cooperator.tasks t) w (λ x. refl)
+    told_task_comes (λ x. entry.WhenDone x.name d) _ (slice_get w.objects.cooperators.tasks t) w (λ x. refl)
     (λ x. (tt, tt)) (λ x. (refl, refl, refl))
     (λ x g. task_beside _ _ _ (beside.TaskAwaited t d x g refl) refl refl refl)
 step_quiet (steps.PauseTask t) w m =
-    told_task_comes (λ x. entry.PauseTask x.name) _ (slice_get w.objects.cooperator.tasks t) w (λ x. refl)
+    told_task_comes (λ x. entry.PauseTask x.name) _ (slice_get w.objects.cooperators.tasks t) w (λ x. refl)
     (λ x. (tt, tt)) (λ x. (refl, refl, refl)) (λ x g. task_beside _ _ _ (beside.TaskPaused t x g refl) refl refl refl)
 step_quiet (steps.ResumeTask t) w m =
-    told_task_comes (λ x. entry.ResumeTask x.name) _ (slice_get w.objects.cooperator.tasks t) w (λ x. refl)
+    told_task_comes (λ x. entry.ResumeTask x.name) _ (slice_get w.objects.cooperators.tasks t) w (λ x. refl)
     (λ x. (tt, tt)) (λ x. (refl, refl, refl)) (λ x g. task_beside _ _ _ (beside.TaskResumed t x g refl) refl refl refl)
 step_quiet (steps.HoldTask t e) w m =
-    told_task_comes (λ x. entry.Hold x.name e) _ (slice_get w.objects.cooperator.tasks t) w (λ x. refl)
+    told_task_comes (λ x. entry.Hold x.name e) _ (slice_get w.objects.cooperators.tasks t) w (λ x. refl)
     (λ x. (tt, tt)) (λ x. (refl, refl, refl)) (λ x g. task_beside _ _ _ (beside.TaskPaused t x g refl) refl refl refl)
+step_quiet (steps.SetUnitsIn k name units) w m =
+    by_aside (entry.UnitsIn name units) _ w refl (tt, tt) (λ r. Leaves (refl, refl, refl)) (λ r. r)
+    (resting _ _ _ refl refl refl refl refl
+    (turns_stay k (with_units units) w.objects.cooperators.all (λ one. refl)) refl refl refl) refl
+step_quiet (steps.Halt k name) w m =
+    by_aside (entry.StopCooperator name) _ w refl (tt, tt) (λ r. Leaves (refl, refl, refl)) (λ r. r)
+    (resting _ _ _ refl refl refl refl refl (turns_stay k halted w.objects.cooperators.all (λ one. refl)) refl refl refl)
+    refl
 step_quiet (steps.SetUnits units) w m =
-    by_aside (entry.Units units) _ w refl (tt, tt) (λ k. Leaves (refl, refl, refl)) (λ k. k)
-    (resting _ _ _ refl refl refl refl refl refl refl refl refl) refl
-step_quiet steps.KeepTick w m = keep_comes w w (same w)
-step_quiet steps.BeginTick w m =
-    by_arrange _ w (refl, refl) Stays (λ k. k) (arranging _ _ refl refl refl refl refl) refl
-step_quiet steps.EndTick w m = by_arrange _ w (refl, refl) Stays (λ k. k) (arranging _ _ refl refl refl refl refl) refl
+    by_aside (entry.Units units) _ w refl (tt, tt) (λ r. Leaves (refl, refl, refl)) (λ r. r)
+    (resting _ _ _ refl refl refl refl refl
+    (turns_stay 0 (with_units units) w.objects.cooperators.all (λ one. refl)) refl refl refl) refl
+step_quiet (steps.KeepTick k) w m = keep_comes k w w (same w)
+step_quiet (steps.BeginTick k) w m =
+    by_arrange _ w (refl, refl) Stays (λ r. r) (arranging _ _ refl
+    (turns_stay k (λ c. record c { tick = None; ticking = true }) w.objects.cooperators.all (λ one. refl))
+    refl refl refl) refl
+step_quiet (steps.EndTick k) w m =
+    by_arrange _ w (refl, refl) Stays (λ r. r) (arranging _ _ refl
+    (turns_stay k (λ c. record c { ticking = false }) w.objects.cooperators.all (λ one. refl)) refl refl refl) refl
 step_quiet steps.AddInline w m =
     by_arrange _ w (refl, refl) Stays (λ k. k) (arranging _ _ refl refl refl refl refl) refl
 step_quiet (steps.BeginAwait i e) w m =
@@ -680,16 +722,16 @@ step_quiet steps.StopRun w m = record { keeps = λ R l. l.by_stop w }
 step_quiet (steps.Put d v) w m = absurd m
 step_quiet (steps.PutDeferred d e) w m = absurd m
 
-step_taken_comes : (t : ℕ) (o : Option Task) (w : World) → turn_of w.objects.cooperator.turns ≡ Some t
-    → slice_get w.objects.cooperator.tasks t ≡ o → Quietly w (step_taken t o w).1
-step_taken_comes t None w h g = same w
-step_taken_comes t (Some x) w h g =
+step_taken_comes : (k t : ℕ) (o : Option Task) (w : World) → turn_in (cooperator_of k w) ≡ Some t
+    → slice_get w.objects.cooperators.tasks t ≡ o → Quietly w (step_taken t o w).1
+step_taken_comes k t None w h g = same w
+step_taken_comes k t (Some x) w h g =
     by_aside (entry.Step x.name) (cooperating (with_step t x)) w refl (tt, tt) (λ k. Leaves (refl, refl, refl)) (λ k. k)
-    (task_beside _ _ _ (beside.TaskSteps t x h g refl) refl refl refl) refl
+    (task_beside _ _ _ (beside.TaskSteps k t x h g refl) refl refl refl) refl
 
-turn_comes : (o : Option ℕ) (w : World) → turn_of w.objects.cooperator.turns ≡ o → Quietly w (turn_taken o w).1
-turn_comes None w h = same w
-turn_comes (Some t) w h = step_taken_comes t (slice_get w.objects.cooperator.tasks t) w h refl
+turn_comes : (k : ℕ) (o : Option ℕ) (w : World) → turn_in (cooperator_of k w) ≡ o → Quietly w (turn_taken o w).1
+turn_comes k None w h = same w
+turn_comes k (Some t) w h = step_taken_comes k t (slice_get w.objects.cooperators.tasks t) w h refl
 
 pub question_quiet : (question : Question) (w : World) → AsksQuietly question → Quietly w (steps.asked question w).1
 question_quiet (steps.BeginBody declared) w m =
@@ -701,9 +743,9 @@ question_quiet (steps.GetFrom k d) w m = absurd m
 question_quiet (steps.ChildFired l i v) w m = child_fired_in_comes l i v w
 question_quiet (steps.CancelCall number) w m = off_comes number w
 question_quiet (steps.ResetCall number from delay) w m = anew_comes number from delay w
-question_quiet steps.TakeStep w m = turn_comes (turn_of w.objects.cooperator.turns) w refl
+question_quiet (steps.TakeStep k) w m = turn_comes k (turn_in (cooperator_of k w)) w refl
 question_quiet (steps.EndTask t end) w m =
-    task_ended_comes t end (unended (slice_get w.objects.cooperator.tasks t)) w refl
+    task_ended_comes t end (unended (slice_get w.objects.cooperators.tasks t)) w refl
 question_quiet (steps.ResumeInline i v) w m = inlining_comes i v w
 question_quiet (steps.EndAwait i e p) w m = end_await_comes i e p w
 question_quiet steps.TakeDue w m = upcoming_comes (next_call w.objects.clock) w refl
@@ -725,7 +767,7 @@ reached_by (steps.GetFrom k d) r = None
 reached_by (steps.ChildFired l i v) r = None
 reached_by (steps.CancelCall number) r = None
 reached_by (steps.ResetCall number from delay) r = None
-reached_by steps.TakeStep r = None
+reached_by (steps.TakeStep k) r = None
 reached_by (steps.EndTask t end) r = None
 reached_by (steps.ResumeInline i v) r = None
 reached_by (steps.EndAwait i e p) r = None

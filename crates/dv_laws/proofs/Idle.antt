@@ -261,7 +261,8 @@ module _ (below : List Frame) (o : Performed) (w : World) where
   turn_placed (frame.Give given) s = mild_turn (frame.Give given) (λ n. refl) tt s
   turn_placed (frame.Notify d t) s = mild_turn (frame.Notify d t) (λ n. refl) tt s
   turn_placed (frame.Stepped t) s = mild_turn (frame.Stepped t) (λ n. refl) tt s
-  turn_placed (frame.Tick units) s = mild_turn (frame.Tick units) (λ n. refl) tt s
+  turn_placed (frame.Halt t) s = mild_turn (frame.Halt t) (λ n. refl) tt s
+  turn_placed (frame.Tick k units) s = mild_turn (frame.Tick k units) (λ n. refl) tt s
   turn_placed frame.Tell s = mild_turn frame.Tell (λ n. refl) tt s
   turn_placed frame.Due s = mild_turn frame.Due (λ n. refl) tt s
   turn_placed (frame.Inline inlining) s = mild_turn (frame.Inline inlining) (λ n. refl) tt s
@@ -350,6 +351,6 @@ runs_rest (occurrence ∷ rest) w u h r =
 pub none_runs : (script : Script) (batches : List Batch) (w : World) → Means script batches w → w.stopped ≡ false
     → (n : ℕ) → running_at n w ≡ 0
 none_runs script batches w m h n =
-    let first = first_world script.classes script.bodies script.limit script.cooperator in
+    let first = first_world script.classes script.bodies script.limit script.cooperator script.cooperators in
     (runs_rest (occurrences script.callers script.events batches) first w m
     (record { names = none_bound first refl; idle = λ g k. refl })).idle h n

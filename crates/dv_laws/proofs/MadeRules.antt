@@ -28,7 +28,7 @@ use Rattle.dv_objects.specs.declared.performed.Performed.TheVariants.{Done, Gave
 use Rattle.dv_objects.specs.declared.reached.Reached.{Reached}
 use Rattle.dv_objects.specs.declared.reached.Reached.TheVariants as reached
 use Rattle.dv_objects.specs.declared.task.TaskEnd.{TaskEnd}
-use Rattle.dv_objects.specs.declared.task.TaskEnd.TheVariants.{Finished, Stopped, Failed}
+use Rattle.dv_objects.specs.declared.task.TaskEnd.TheVariants.{Finished, Stopped, Halted, Failed}
 use Rattle.dv_store.specs.declared.store.Step.{Step as Move}
 use Rattle.dv_store.specs.declared.store.Step.TheVariants.{Nothing, Passed, Run, Handed}
 use Rattle.dv_definition.specs.Definition as page
@@ -127,7 +127,20 @@ add_sound : (d : ℕ) (pair : Pair) (w : World) → Sound w (page.add d pair)
 add_sound d pair w = (tt, (tt, (tt, tt)))
 
 end_sound : (t : ℕ) (end : TaskEnd) (w : World) → Sound w (page.end_task t end)
-end_sound t end w = λ ds h. (tt, (tt, notify_made t ds _))
+end_sound t end w = (tt, λ x q. λ ds h. (tt, (tt, notify_made t ds _)))
+
+halt_sound : (t : ℕ) (w : World) → Sound w (page.halt_task t)
+halt_sound t w = (tt, λ x q. (end_sound t Halted w, tt))
+
+joined_sound : (k t : ℕ) (w : World) → Sound w (page.joined_in k t)
+joined_sound k t w = (tt, λ c q. (halt_sound t w, (tt, tt)))
+
+begin_sound : (k : ℕ) (w : World) → Sound w (page.begin_tick k)
+begin_sound k w = (tt, λ c q. (tt, (tt, (tt, tt))))
+
+halts_made : (ts : List ℕ) (w : World) → AllMade (page.halt_all ts) w
+halts_made [] w = tt
+halts_made (t ∷ ts) w = (tt, halts_made ts w)
 
 await_sound : (i : Inline) (name : List ℕ) (p : Position) (w : World) → Sound w (page.await i name p)
 await_sound i name p w = ((tt, (tt, tt)), λ e q. (tt, ((tt, (tt, (tt, tt))), (tt, tt))))
@@ -150,7 +163,7 @@ notify_sound : (d t : ℕ) (w : World) → Sound w (page.notify d t)
 notify_sound d t w = (tt, λ x q. (tt, λ end r. tt))
 
 resume_sound : (t : ℕ) (w : World) → Sound w (page.resume_task t)
-resume_sound t w = (tt, λ x q. (tt, (tt, (tt, tt))))
+resume_sound t w = (tt, λ x q. (tt, (tt, joined_sound x.of t _)))
 
 thread_sound : (name : List ℕ) (pool : Option (List ℕ)) (delay : ℕ) (work : Work) (w : World)
     → Sound w (page.thread name pool delay work)
@@ -199,6 +212,10 @@ carry_sound itself (Action-F.WhenDone name task) w = (tt, λ t q. (tt, (tt, (tt,
 carry_sound itself (Action-F.PauseTask name) w = (tt, λ t q. (tt, λ x r. ((tt, (tt, tt)), λ end s. tt)))
 carry_sound itself (Action-F.StopTask name) w = (tt, λ t q. (tt, λ x r. (end_sound t Stopped w, λ end s. tt)))
 carry_sound itself (Action-F.ResumeTask name) w = (tt, λ t q. resume_sound t w)
+carry_sound itself (Action-F.CooperateIn name of bodies) w = (tt, λ k q. (tt, joined_sound k _ _))
+carry_sound itself (Action-F.UnitsIn name units) w = (tt, λ k q. (tt, tt))
+carry_sound itself (Action-F.StopCooperator name) w =
+    (tt, λ k q. (tt, λ c r. (tt, (tt, halts_made c.turns.tasks _))))
 carry_sound itself (Action-F.Inline name statements) w = (tt, (tt, (tt, (tt, tt))))
 carry_sound itself (Action-F.Thread name delay work) w = thread_sound name None delay work w
 carry_sound itself (Action-F.ThreadIn name pool delay work) w = thread_sound name (Some pool) delay work w
@@ -260,13 +277,14 @@ step_sound : (t : ℕ) (p : Performed) (w : World) → Sound w (page.after_step 
 step_sound t Done w = tt
 step_sound t (Gave v) w = (tt, λ failure q. end_sound t (Failed failure) w)
 step_sound t (Raised failure) w = end_sound t (Failed failure) w
-step_sound t (Awaits e) w = (tt, (tt, (tt, (tt, tt))))
+step_sound t (Awaits e) w = (tt, λ x q. (tt, (tt, (tt, (tt, tt)))))
 
 due_sound : (o : Option Due) (w : World) → Sound w (page.run_next o)
 due_sound None w = tt
 due_sound (Some (what.Call name key)) w = ((tt, (tt, tt)), λ body q. (tt, (tt, (tt, (tt, tt)))))
 due_sound (Some (what.Turn name key)) w = ((tt, λ x q. body_sound (Turning key) x.body w), (tt, tt))
-due_sound (Some what.Tick) w = (tt, (tt, (tt, (tt, tt))))
+due_sound (Some what.Tick) w = (begin_sound 0 w, (tt, tt))
+due_sound (Some (what.TickIn name k)) w = (begin_sound k w, (tt, tt))
 due_sound (Some (what.Delivery job d)) w = ((tt, λ work q. tt), (tt, (tt, tt)))
 due_sound (Some (what.Timeout d)) w = (tt, (tt, (tt, (tt, tt))))
 
@@ -314,9 +332,10 @@ rule_sound (frame.Cancel d) p w b m r = cancel_sound d w
 rule_sound (frame.Give given) p w b m r = unless_sound p _ w m
 rule_sound (frame.Notify d t) p w b m r = notify_sound d t w
 rule_sound (frame.Stepped t) p w b m r = (tt, step_sound t p w)
-rule_sound (frame.Tick units) p w b m r =
-    let u = (steps.asked steps.TakeStep w).1 in
-    let ends : Sound u page.tick_ended = (tt, (tt, tt)) in (
+rule_sound (frame.Halt t) p w b m r = halt_sound t w
+rule_sound (frame.Tick k units) p w b m r =
+    let u = (steps.asked (steps.TakeStep k) w).1 in
+    let ends : Sound u (page.tick_ended k) = (tt, (tt, tt)) in (
       (tt, (tt, tt)),
       λ taken h. (ends, λ now q. ((end_sound now.0 Finished u, λ body s. (tt, (tt, (tt, tt)))), (tt, tt))),
     )

@@ -38,7 +38,7 @@ use Rattle.dv_objects.specs.declared.pair.Side.TheVariants as side
 use Rattle.dv_objects.specs.declared.performed.Performed.{Performed}
 use Rattle.dv_objects.specs.declared.performed.Performed.TheVariants.{Done, Gave, Raised, Awaits}
 use Rattle.dv_objects.specs.declared.task.TaskEnd.{TaskEnd}
-use Rattle.dv_objects.specs.declared.task.TaskEnd.TheVariants.{Finished, Stopped, Failed}
+use Rattle.dv_objects.specs.declared.task.TaskEnd.TheVariants.{Finished, Stopped, Halted, Failed}
 use Rattle.dv_objects.specs.declared.reached.Reached.{Reached}
 use Rattle.dv_objects.specs.declared.reached.Reached.TheVariants as reached
 use Rattle.dv_laws.proofs.Beside.{resting}
@@ -84,7 +84,8 @@ PutsNothing (frame.Cancel d) = Unit {0}
 PutsNothing (frame.Give given) = Unit {0}
 PutsNothing (frame.Notify d t) = Unit {0}
 PutsNothing (frame.Stepped t) = Unit {0}
-PutsNothing (frame.Tick units) = Unit {0}
+PutsNothing (frame.Halt t) = Unit {0}
+PutsNothing (frame.Tick k units) = Unit {0}
 PutsNothing frame.Tell = Unit {0}
 PutsNothing frame.Due = Unit {0}
 PutsNothing (frame.Inline inlining) = Unit {0}
@@ -116,7 +117,8 @@ settled_by (frame.Cancel d) = None
 settled_by (frame.Give given) = None
 settled_by (frame.Notify d t) = None
 settled_by (frame.Stepped t) = None
-settled_by (frame.Tick units) = None
+settled_by (frame.Halt t) = None
+settled_by (frame.Tick k units) = None
 settled_by frame.Tell = None
 settled_by frame.Due = None
 settled_by (frame.Inline inlining) = None
@@ -175,7 +177,7 @@ AsksCalmly w (steps.ChildFired l i v) rule = Unit {0}
 AsksCalmly w (steps.CancelCall number) rule = Unit {0}
 AsksCalmly w (steps.ResetCall number from delay) rule = Unit {0}
 AsksCalmly w (steps.BeginBody declared) rule = Unit {0}
-AsksCalmly w steps.TakeStep rule = Unit {0}
+AsksCalmly w (steps.TakeStep k) rule = Unit {0}
 AsksCalmly w (steps.EndTask t end) rule = Unit {0}
 AsksCalmly w (steps.ResumeInline i v) rule = Unit {0}
 AsksCalmly w (steps.EndAwait i e p) rule = Unit {0}
@@ -497,11 +499,27 @@ reached_mild (reached.Inline i) w = search [] depth 20
 add_mild : (d : ℕ) (pair : Pair) (w : World) → Mildly None w (page.add d pair)
 add_mild d pair w = (tt, refl, (tt, (tt, tt)))
 
-ended_mild : (w : World) → Mildly None w page.tick_ended
-ended_mild w = (tt, tt, (tt, tt, tt))
+ended_mild : (k : ℕ) (w : World) → Mildly None w (page.tick_ended k)
+ended_mild k w = (tt, tt, (tt, tt, tt))
+
+begin_mild : (k : ℕ) (w : World) → Mildly None w (page.begin_tick k)
+begin_mild k w = (tt, λ c e. (tt, tt, (tt, (tt, tt))))
 
 end_mild : (t : ℕ) (end : TaskEnd) (w : World) → Mildly None w (page.end_task t end)
-end_mild t end w = (tt, λ ds. (tt, tt, (tt, notify_free t ds)))
+end_mild t end w = (tt, λ x e. (tt, λ ds. (tt, tt, (tt, notify_free t ds))))
+
+halt_mild : (t : ℕ) (w : World) → Mildly None w (page.halt_task t)
+halt_mild t w = (tt, λ x e. (λ b. end_mild t Halted w, λ b. tt))
+
+joined_mild : (k t : ℕ) (w : World) → Mildly None w (page.joined_in k t)
+joined_mild k t w = (tt, λ c e. (λ b. halt_mild t w, λ b. (tt, tt, tt)))
+
+resumed_mild : (t : ℕ) (w : World) → Mildly None w (page.resume_task t)
+resumed_mild t w = (tt, λ x e. (λ b. tt, λ b. (tt, tt, joined_mild x.of t (stepped (steps.ResumeTask t) w))))
+
+halt_free : (ts : List ℕ) → AllPutNothing (page.halt_all ts)
+halt_free [] = tt
+halt_free (t ∷ ts) = (tt, halt_free ts)
 
 await_mild : (i : Inline) (name : List ℕ) (p : Position) (w : World) → Mildly None w (page.await i name p)
 await_mild i name p w = ((tt, (tt, tt)), λ e q. (tt, tt, (add_mild e (continuing i) w, (tt, tt))))
@@ -569,7 +587,13 @@ carry_mild itself (Action-F.Cooperate name bodies) w = search [] depth 20
 carry_mild itself (Action-F.WhenDone name task) w = search [] depth 20
 carry_mild itself (Action-F.PauseTask name) w = search [] depth 20
 carry_mild itself (Action-F.StopTask name) w = (tt, λ t e. (tt, λ x g. (end_mild t Stopped w, λ end f. tt)))
-carry_mild itself (Action-F.ResumeTask name) w = search [] depth 20
+carry_mild itself (Action-F.ResumeTask name) w = (tt, λ t e. resumed_mild t w)
+carry_mild itself (Action-F.CooperateIn name of bodies) w =
+    let t = length w.objects.cooperators.tasks in
+    (tt, λ k e. (tt, tt, joined_mild k t (stepped (steps.NewTaskIn k name of bodies) w)))
+carry_mild itself (Action-F.UnitsIn name units) w = search [] depth 20
+carry_mild itself (Action-F.StopCooperator name) w =
+    (tt, λ k e. (tt, λ c f. (tt, tt, (tt, halt_free c.turns.tasks))))
 carry_mild itself (Action-F.Inline name statements) w = search [] depth 20
 carry_mild itself (Action-F.Thread name delay work) w = search [] depth 20
 carry_mild itself (Action-F.ThreadIn name pool delay work) w = search [] depth 20
@@ -616,7 +640,8 @@ due_mild : (o : Option Due) (w : World) → Mildly None w (page.run_next o)
 due_mild None w = tt
 due_mild (Some (what.Call name key)) w = search [] depth 20
 due_mild (Some (what.Turn name key)) w = search [] depth 20
-due_mild (Some what.Tick) w = search [] depth 20
+due_mild (Some what.Tick) w = (begin_mild 0 w, (tt, tt))
+due_mild (Some (what.TickIn name k)) w = (begin_mild k w, (tt, tt))
 due_mild (Some (what.Delivery job d)) w = search [] depth 20
 due_mild (Some (what.Timeout d)) w = search [] depth 20
 
@@ -632,7 +657,8 @@ IsMild (frame.Cancel d) = Unit {0}
 IsMild (frame.Give given) = Unit {0}
 IsMild (frame.Notify d t) = Unit {0}
 IsMild (frame.Stepped t) = Unit {0}
-IsMild (frame.Tick units) = Unit {0}
+IsMild (frame.Halt t) = Unit {0}
+IsMild (frame.Tick k units) = Unit {0}
 IsMild frame.Tell = Unit {0}
 IsMild frame.Due = Unit {0}
 IsMild (frame.Inline inlining) = Unit {0}
@@ -649,13 +675,15 @@ rule_mild (frame.Cancel d) p w m = (cancel_leaves w d, λ r. reached_mild r (can
 rule_mild (frame.Give given) p w m = unless_mild p _ w tt
 rule_mild (frame.Notify d t) p w m = search [] depth 20
 rule_mild (frame.Stepped t) p w m = (λ b. tt, λ b. step_mild t p w)
-rule_mild (frame.Tick units) p w m = (
-  λ b. ended_mild w,
-  λ b. (
-    tt,
-    λ taken. (ended_mild w, λ now e. ((end_mild now.0 Finished w, λ body f. (tt, (tt, (tt, tt)))), (tt, tt))),
-  ),
-)
+rule_mild (frame.Halt t) p w m = halt_mild t w
+rule_mild (frame.Tick k units) p w m =
+    let u = (steps.asked (steps.TakeStep k) w).1 in (
+      λ b. ended_mild k w,
+      λ b. (
+        tt,
+        λ taken. (ended_mild k u, λ now e. ((end_mild now.0 Finished u, λ body f. (tt, (tt, (tt, tt)))), (tt, tt))),
+      ),
+    )
 rule_mild frame.Tell p w m = search [] depth 20
 rule_mild frame.Due p w m = (tt, λ o. due_mild o (world.take_due w).1)
 rule_mild (frame.Inline x) p w m = inline_mild x p w
@@ -673,7 +701,7 @@ side_rule_mild d (Some (side.Hold l body)) input w = search [] depth 20
 side_rule_mild d (Some (side.Release l)) input w = (release_mild l w, (tt, tt))
 side_rule_mild d (Some (side.NextTurn l)) input w = search [] depth 20
 side_rule_mild d (Some (side.EndLoop l)) input w = search [] depth 20
-side_rule_mild d (Some (side.ResumeTask t)) input w = search [] depth 20
+side_rule_mild d (Some (side.ResumeTask t)) input w = (λ b. tt, λ b. resumed_mild t w)
 side_rule_mild d (Some (side.FailTask t)) input w = (tt, λ failure e. end_mild t (Failed failure) w)
 side_rule_mild d (Some (side.Resume i)) input w = resume_mild i input w
 

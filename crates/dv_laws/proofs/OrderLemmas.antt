@@ -14,7 +14,7 @@ use Rattle.dv_clock.specs.declared.limits.TheConstants.{MOST_TICKS}
 use Rattle.dv_clock.proofs.ClockLemmas.{first_runs_next}
 use Rattle.dv_journal.specs.declared.entry.Entry.{Entry}
 use Rattle.dv_journal.specs.declared.entry.Entry.TheVariants as entry
-use Rattle.dv_journal.specs.Told.{Timed, Called, Ticking, Delivered, TimedOut}
+use Rattle.dv_journal.specs.Told.{Timed, Called, Ticking, TickingIn, Delivered, TimedOut}
 use Rattle.dv_objects.specs.Refusals.{cancelled}
 use Rattle.dv_posts.specs.Batches.{Batch}
 use Rattle.dv_loop.specs.Meaning.{Means}
@@ -43,18 +43,21 @@ use Rattle.dv_laws.proofs.CallsLemmas.{stands_on, stands_last}
 is_itself : (t : Timed) → is_same t t ≡ true
 is_itself (Called name) = (bytes_eq-Decides name name).1 refl
 is_itself Ticking = refl
+is_itself (TickingIn name) = (bytes_eq-Decides name name).1 refl
 is_itself (Delivered job) = grind (arith, nat_tests)
 is_itself (TimedOut d) = grind (arith, nat_tests)
 
 later_counts : (t : Timed) (due : ℕ) → count_of t (scheduled_by (later_of t due)) ≡ 1
 later_counts (Called name) due = ap {B = ℕ} (λ b. cond b 1 0) (is_itself (Called name))
 later_counts Ticking due = refl
+later_counts (TickingIn name) due = ap {B = ℕ} (λ b. cond b 1 0) (is_itself (TickingIn name))
 later_counts (Delivered job) due = ap {B = ℕ} (λ b. cond b 1 0) (is_itself (Delivered job))
 later_counts (TimedOut d) due = ap {B = ℕ} (λ b. cond b 1 0) (is_itself (TimedOut d))
 
 later_due : (t : Timed) (a b : ℕ) → later_of t a ≡ later_of t b → a ≡ b
 later_due (Called name) a b q = cc
 later_due Ticking a b q = cc
+later_due (TickingIn name) a b q = cc
 later_due (Delivered job) a b q = cc
 later_due (TimedOut d) a b q = cc
 

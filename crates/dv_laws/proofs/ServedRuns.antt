@@ -11,6 +11,7 @@ use Rattle.dv_journal.specs.Told.{change_of, Aside, Fires, Cancels}
 use Rattle.dv_journal.specs.declared.entry.Entry.{Entry}
 use Rattle.dv_journal.specs.declared.entry.Entry.TheVariants as entry
 use Rattle.dv_script.specs.declared.script.Cooperator.{Cooperator as Settings}
+use Rattle.dv_script.specs.declared.script.NamedCooperator.{NamedCooperator}
 use Rattle.dv_script.specs.declared.script.NamedBody.{NamedBody}
 use Rattle.dv_script.specs.declared.script.Script.{Script}
 use Rattle.dv_store.specs.Cancelling.{swallow_next}
@@ -421,8 +422,9 @@ module _ (name : List ℕ) where
 
 -- so it is at first
 first_served : (S : Sought) (name : List ℕ) (classes : List Class) (declared : List NamedBody) (limit : ℕ)
-    (settings : Settings) → Served S name (first_world classes declared limit settings)
-first_served Values name classes declared limit settings = record {
+    (settings : Settings) (cooperators : List NamedCooperator)
+    → Served S name (first_world classes declared limit settings cooperators)
+first_served Values name classes declared limit settings cooperators = record {
   back = λ d. refl;
   made = refl;
   sound = tt;
@@ -430,7 +432,7 @@ first_served Values name classes declared limit settings = record {
   leads = λ c t. begins Values name;
   some = λ c. (nothing Values, begins Values name);
 }
-first_served Tokens name classes declared limit settings = record {
+first_served Tokens name classes declared limit settings cooperators = record {
   back = λ d. refl;
   made = refl;
   sound = record { each = λ l s g. absurd (none-some s g) };
@@ -573,7 +575,7 @@ module _ (S : Sought) (name : List ℕ) where
   world_served : (script : Script) (batches : List Batch) (w : World) → Means script batches w → Served S name w
   world_served script batches w m =
       (means_keeps (Goes S name) settles script batches w m).goes_on
-      (first_served S name script.classes script.bodies script.limit script.cooperator)
+      (first_served S name script.classes script.bodies script.limit script.cooperator script.cooperators)
 
   served_stopped : (w : World) → Served S name w → made_so S name w.journal.entries ≤ 1 → (b : Bool) → w.stopped ≡ b
       → (after : Shape S) × Leads S name w.journal.entries after

@@ -228,7 +228,8 @@ place_of n (frame.Cancel d) = 0
 place_of n (frame.Give given) = 0
 place_of n (frame.Notify d t) = 0
 place_of n (frame.Stepped t) = 0
-place_of n (frame.Tick units) = 0
+place_of n (frame.Halt t) = 0
+place_of n (frame.Tick k units) = 0
 place_of n frame.Tell = 0
 place_of n frame.Due = 0
 place_of n (frame.Inline inlining) = 0
@@ -247,7 +248,8 @@ free_place n (frame.Cancel d) h = refl
 free_place n (frame.Give given) h = refl
 free_place n (frame.Notify d t) h = refl
 free_place n (frame.Stepped t) h = refl
-free_place n (frame.Tick units) h = refl
+free_place n (frame.Halt t) h = refl
+free_place n (frame.Tick k units) h = refl
 free_place n frame.Tell h = refl
 free_place n frame.Due h = refl
 free_place n (frame.Inline inlining) h = refl
@@ -415,8 +417,10 @@ module _ (R : World → World → Type 0) (k : Settles R) where
       mild_leaves below w _ (below_stands (frame.Notify d t) below w s) (turned_mild (frame.Notify d t) o w tt)
   turn_leaves (frame.Stepped t) o w below s =
       mild_leaves below w _ (below_stands (frame.Stepped t) below w s) (turned_mild (frame.Stepped t) o w tt)
-  turn_leaves (frame.Tick units) o w below s =
-      mild_leaves below w _ (below_stands (frame.Tick units) below w s) (turned_mild (frame.Tick units) o w tt)
+  turn_leaves (frame.Halt t) o w below s =
+      mild_leaves below w _ (below_stands (frame.Halt t) below w s) (turned_mild (frame.Halt t) o w tt)
+  turn_leaves (frame.Tick k units) o w below s =
+      mild_leaves below w _ (below_stands (frame.Tick k units) below w s) (turned_mild (frame.Tick k units) o w tt)
   turn_leaves frame.Tell o w below s =
       mild_leaves below w _ (below_stands frame.Tell below w s) (turned_mild frame.Tell o w tt)
   turn_leaves frame.Due o w below s =
@@ -487,10 +491,10 @@ module _ (R : World → World → Type 0) (k : Settles R) where
 
   -- so a run keeps it
   pub means_keeps : (script : Script) (batches : List Batch) (w : World) → Means script batches w
-      → R (first_world script.classes script.bodies script.limit script.cooperator) w
+      → R (first_world script.classes script.bodies script.limit script.cooperator script.cooperators) w
   means_keeps script batches w h =
       runs_keeps (occurrences script.callers script.events batches)
-      (first_world script.classes script.bodies script.limit script.cooperator) w h
+      (first_world script.classes script.bodies script.limit script.cooperator script.cooperators) w h
 
 -- and what is so of the journal of each run, is so of the journal of each report
 pub reported : (P : List Entry → Type 0)

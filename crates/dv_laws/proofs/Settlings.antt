@@ -692,7 +692,8 @@ turn_watched (frame.Cancel d) o w below s = mild_turn (frame.Cancel d) o w below
 turn_watched (frame.Give given) o w below s = mild_turn (frame.Give given) o w below (λ n. refl) tt s
 turn_watched (frame.Notify d t) o w below s = mild_turn (frame.Notify d t) o w below (λ n. refl) tt s
 turn_watched (frame.Stepped t) o w below s = mild_turn (frame.Stepped t) o w below (λ n. refl) tt s
-turn_watched (frame.Tick units) o w below s = mild_turn (frame.Tick units) o w below (λ n. refl) tt s
+turn_watched (frame.Halt t) o w below s = mild_turn (frame.Halt t) o w below (λ n. refl) tt s
+turn_watched (frame.Tick k units) o w below s = mild_turn (frame.Tick k units) o w below (λ n. refl) tt s
 turn_watched frame.Tell o w below s = mild_turn frame.Tell o w below (λ n. refl) tt s
 turn_watched frame.Due o w below s = mild_turn frame.Due o w below (λ n. refl) tt s
 turn_watched (frame.Inline inlining) o w below s = mild_turn (frame.Inline inlining) o w below (λ n. refl) tt s
@@ -765,7 +766,7 @@ runs_watched (occurrence ∷ rest) w u h s =
 pub all_settled : (script : Script) (batches : List Batch) (w : World) → Means script batches w → w.stopped ≡ false
     → (n : ℕ) → owes_at n w ≡ 0
 all_settled script batches w m h n =
-    let first = first_world script.classes script.bodies script.limit script.cooperator in
+    let first = first_world script.classes script.bodies script.limit script.cooperator script.cooperators in
     let all = runs_watched (occurrences script.callers script.events batches) first w m (record {
       watched = λ g k. omega arith;
     }) in

@@ -2,7 +2,8 @@
 use Rattle.std.proofs.Common.{◌≡◌, ℕ, zero, suc, ◌+◌, ◌-◌, ◌≤◌, ◌<◌, ◌++◌, Bool, true, false, nat_eq, List, [], ◌∷◌}
 use Rattle.std.proofs.Common.{Option, None, Some, refl, sym, ap, subst, ◌∙◌, arith, drop, slice_get, slice_set, cond}
 use Rattle.std.proofs.Common.{length, sum_by}
-use Rattle.std.specs.Prelude.{◌&&◌, ◌||◌, is_none, is_some, bytes_eq, if◌then◌else◌}
+use Rattle.std.specs.Prelude.{◌&&◌, ◌||◌, is_none, is_some, bytes_eq, if◌then◌else◌, map}
+use Rattle.std.specs.Option.{option_map_or}
 use Rattle.std.specs.Set.{remove_key}
 use Rattle.std.proofs.Math.Dec.{eqb-suc-zero, eqb-zero-suc, eqb-suc-suc}
 use Rattle.std.proofs.lemmas.Bool.{eqb-true}
@@ -10,11 +11,12 @@ use Rattle.std.proofs.lemmas.Bool.Decides.{nat_tests}
 use Rattle.std.proofs.lemmas.List.Sums.{sum_by_push, sum_by-set, sum_by-cons}
 use Rattle.std.proofs.lemmas.Option.{slice_get_within, get_or_from_slice_get}
 use Rattle.std.proofs.lemmas.Slice.Eq.{bytes_eq-Decides}
-use Rattle.dv_clock.specs.Turns.{Turns, is_among, joined, place_of_turn, turn_of, gone_on_by}
+use Rattle.dv_clock.specs.Turns.{Turns, is_among, joined, left, place_of_turn, turn_of, gone_on, gone_on_by}
 use Rattle.dv_journal.specs.declared.entry.Entry.{Entry}
 use Rattle.dv_journal.specs.declared.entry.Entry.TheVariants as entry
-use Rattle.dv_objects.specs.Cooperator.{Cooperator, new_task, with_new_task, with_step, with_pause, with_resume}
-use Rattle.dv_objects.specs.Cooperator.{with_end, with_waiting, result_of}
+use Rattle.dv_objects.specs.Cooperator.{Cooperator, Cooperators, named_cooperator, new_cooperators, all_changed, turned}
+use Rattle.dv_objects.specs.Cooperator.{turn_in, new_task, with_new_task, with_step, with_pause, with_resume, with_end}
+use Rattle.dv_objects.specs.Cooperator.{with_waiting, result_of}
 use Rattle.dv_objects.specs.Objects.{Objects, naming_where}
 use Rattle.dv_objects.specs.Refusals.{cancelled}
 use Rattle.dv_objects.specs.declared.task.Task.{Task}
@@ -22,15 +24,18 @@ use Rattle.dv_objects.specs.declared.task.TaskEnd.{TaskEnd}
 use Rattle.dv_posts.specs.Batches.{Batch}
 use Rattle.dv_loop.specs.Meaning.{Means}
 use Rattle.dv_script.specs.declared.body.Body.{Body}
+use Rattle.dv_script.specs.declared.script.Cooperator.{Cooperator as Settings}
+use Rattle.dv_script.specs.declared.script.NamedCooperator.{NamedCooperator}
 use Rattle.dv_script.specs.declared.script.Script.{Script}
 use Rattle.dv_world.specs.World.{World}
-use Rattle.dv_laws.specs.Tasks.{Untasked, StepsTask, tasking_of, makes_by, ends_by, tasks_made, tasks_ended, EndsOnce}
-use Rattle.dv_laws.specs.Tasks.{TasksEndOnce}
+use Rattle.dv_laws.specs.Tasks.{Untasked, MakesTask, StepsTask, tasking_of, makes_by, ends_by, tasks_made}
+use Rattle.dv_laws.specs.Tasks.{tasks_ended, EndsOnce, TasksEndOnce}
 use Rattle.dv_laws.proofs.At.{places_on, no_places, entries_on, no_entries}
 use Rattle.dv_laws.proofs.ReadBackLemmas.{get_set}
 use Rattle.dv_laws.proofs.Still.{Still, calm}
 use Rattle.dv_laws.proofs.Settles.{Settles, means_keeps, reported}
-use Rattle.dv_laws.proofs.Beside.{Tasks, TasksRest, TaskMade, TaskSteps, TaskEnds, TaskPaused, TaskResumed, TaskAwaited}
+use Rattle.dv_laws.proofs.Beside.{all_turns, Tasks, TasksRest, TaskMade, TaskMadeIn, TaskSteps, TaskEnds, TaskPaused}
+use Rattle.dv_laws.proofs.Beside.{TaskResumed, TaskAwaited}
 
 -- 1. Tasks of a name, and those of them that have ended.
 
@@ -87,7 +92,7 @@ set_counts : (f : Task → ℕ) (tasks : List Task) (t : ℕ) (x y : Task) → s
 set_counts f tasks t x y h =
     omega (arith, sum_by-set f tasks t y x (slice_get_within tasks t x h), ap f (get_or_from_slice_get tasks t x x h))
 
--- 2. Those that take turns haven't ended, and each stands there once.
+-- 2. Those that take turns in a Cooperator are in it and haven't ended, and each stands there once.
 
 abbrev one_of : ℕ → ℕ → ℕ
 one_of t u = cond (nat_eq t u) 1 0
@@ -95,12 +100,25 @@ one_of t u = cond (nat_eq t u) 1 0
 abbrev standing : ℕ → List ℕ → ℕ
 standing t ts = sum_by (one_of t) ts
 
-abbrev may_stand : Option Task → ℕ
-may_stand None = 0
-may_stand (Some x) = cond (is_some x.end) 0 1
+-- those that take turns in the Cooperator that is found
+abbrev taking : Option Cooperator → List ℕ
+taking None = []
+taking (Some one) = one.turns.tasks
 
-abbrev may_stand_at : ℕ → List Task → ℕ
-may_stand_at t tasks = may_stand (slice_get tasks t)
+abbrev taking_at : ℕ → List Cooperator → List ℕ
+taking_at k all = taking (slice_get all k)
+
+-- how often a task may stand in Cooperator k
+abbrev may_stand : ℕ → Option Task → ℕ
+may_stand k None = 0
+may_stand k (Some x) = cond (is_none x.end && nat_eq x.of k) 1 0
+
+abbrev may_stand_at : ℕ → ℕ → List Task → ℕ
+may_stand_at k t tasks = may_stand k (slice_get tasks t)
+
+-- so it is in each Cooperator
+record Stand (tasks : List Task) (all : List Cooperator) : Type 0 where
+  stand : (k n : ℕ) → standing n (taking_at k all) ≤ may_stand_at k n tasks
 
 is_itself : (t : ℕ) → nat_eq t t ≡ true
 is_itself t = grind (arith, nat_tests)
@@ -121,9 +139,9 @@ once_by : (b : Bool) → cond {A = ℕ} b 1 0 ≤ 1
 once_by true = omega arith
 once_by false = omega arith
 
-may_once : (o : Option Task) → may_stand o ≤ 1
-may_once None = omega arith
-may_once (Some x) = elim x.end as (λ o. ◌≤◌ (cond (is_some o) 0 1) 1) [ None ↦ omega arith | Some end ↦ omega arith ]
+may_once : (k : ℕ) (o : Option Task) → may_stand k o ≤ 1
+may_once k None = omega arith
+may_once k (Some x) = once_by (is_none x.end && nat_eq x.of k)
 
 -- a task that may stand there and joins stands there once at most
 new_by : (c : Bool) (n t m : ℕ) (ts : List ℕ) → nat_eq n t ≡ c → standing t ts ≡ 0 → standing n ts ≤ m → one_of n t ≤ m
@@ -182,68 +200,133 @@ stands_at t zero (u ∷ ts) h =
     omega (arith, sum_by-cons (one_of t) u ts, one)
 stands_at t (suc k) (u ∷ ts) h = omega (arith, sum_by-cons (one_of t) u ts, stands_at t k ts h)
 
+turn_stands : (t : ℕ) (o : Option Cooperator) → turn_in o ≡ Some t → 1 ≤ standing t (taking o)
+turn_stands t None h = absurd cc
+turn_stands t (Some one) h = stands_at t (place_of_turn one.turns) one.turns.tasks h
+
 -- a turn that is taken leaves who takes turns
 gone_same : (o : Option ℕ) (turns : Turns) → (gone_on_by o turns).tasks ≡ turns.tasks
 gone_same None turns = refl
 gone_same (Some t) turns = refl
 
+-- those that take turns in Cooperator j, after the turns in k changed
+turned_by : (b : Bool) (k j n m : ℕ) (change : Turns → Turns) (o : Option Cooperator) (all : List Cooperator)
+    → nat_eq k j ≡ b → slice_get all k ≡ o → (nat_eq k j ≡ false → standing n (taking_at j all) ≤ m)
+    → ((turns : Turns) → nat_eq k j ≡ true → turns.tasks ≡ taking_at j all → standing n (change turns).tasks ≤ m)
+    → standing n (taking_at j (all_changed k (λ one. record one { turns = change one.turns }) o all)) ≤ m
+turned_by true k j n m change None all e g other here =
+    let none : slice_get all j ≡ None = ap (slice_get all) (sym (eqb-true k j e)) ∙ g in
+    omega (arith, ap (λ (o : Option Cooperator). standing n (taking o)) none)
+turned_by false k j n m change None all e g other here = other e
+turned_by true k j n m change (Some one) all e g other here =
+    let new : Cooperator = record one { turns = change one.turns } in
+    let found : slice_get all j ≡ Some one = ap (slice_get all) (sym (eqb-true k j e)) ∙ g in
+    let now : slice_get (slice_set all k new) j ≡ Some new =
+    get_set all k j one new g ∙ ap {B = Option Cooperator} (λ b. cond b (Some new) (slice_get all j)) e in
+    omega (
+      arith,
+      ap (λ (o : Option Cooperator). standing n (taking o)) now,
+      here one.turns e (sym (ap taking found)),
+    )
+turned_by false k j n m change (Some one) all e g other here =
+    let new : Cooperator = record one { turns = change one.turns } in
+    let now : slice_get (slice_set all k new) j ≡ slice_get all j =
+    get_set all k j one new g ∙ ap {B = Option Cooperator} (λ b. cond b (Some new) (slice_get all j)) e in
+    omega (arith, ap (λ (o : Option Cooperator). standing n (taking o)) now, other e)
+
+turned_stands : (k j n m : ℕ) (change : Turns → Turns) (all : List Cooperator)
+    → (nat_eq k j ≡ false → standing n (taking_at j all) ≤ m)
+    → ((turns : Turns) → nat_eq k j ≡ true → turns.tasks ≡ taking_at j all → standing n (change turns).tasks ≤ m)
+    → standing n (taking_at j (turned k change all)) ≤ m
+turned_stands k j n m change all other here = turned_by _ k j n m change (slice_get all k) all refl refl other here
+
+-- who takes turns stays, where the turns of each stay
+turns_found : (k : ℕ) (all : List Cooperator)
+    → taking_at k all ≡ option_map_or (λ (turns : Turns). turns.tasks) (slice_get (all_turns all) k) []
+turns_found k [] = refl
+turns_found zero (one ∷ all) = refl
+turns_found (suc k) (one ∷ all) = turns_found k all
+
+taking_same : (k : ℕ) (all new : List Cooperator) → all_turns new ≡ all_turns all → taking_at k new ≡ taking_at k all
+taking_same k all new q =
+    turns_found k new
+    ∙ ap (λ (l : List Turns). option_map_or (λ (turns : Turns). turns.tasks) (slice_get l k) []) q
+    ∙ sym (turns_found k all)
+
 -- who may stand there after a task was set, or was made
-may_cases : (b : Bool) (y : Task) (o : Option Task)
-    → may_stand (cond b (Some y) o) ≡ cond b (may_stand (Some y)) (may_stand o)
-may_cases true y o = refl
-may_cases false y o = refl
+may_cases : (k : ℕ) (b : Bool) (y : Task) (o : Option Task)
+    → may_stand k (cond b (Some y) o) ≡ cond b (may_stand k (Some y)) (may_stand k o)
+may_cases k true y o = refl
+may_cases k false y o = refl
 
-may_set : (n t : ℕ) (x y : Task) (tasks : List Task) → slice_get tasks t ≡ Some x
-    → may_stand_at n (slice_set tasks t y) ≡ cond (nat_eq t n) (may_stand (Some y)) (may_stand_at n tasks)
-may_set n t x y tasks h = rw (get_set tasks t n x y h) (may_cases (nat_eq t n) y (slice_get tasks n))
+may_set : (k n t : ℕ) (x y : Task) (tasks : List Task) → slice_get tasks t ≡ Some x
+    → may_stand_at k n (slice_set tasks t y) ≡ cond (nat_eq t n) (may_stand k (Some y)) (may_stand_at k n tasks)
+may_set k n t x y tasks h = rw (get_set tasks t n x y h) (may_cases k (nat_eq t n) y (slice_get tasks n))
 
-same_by : (b : Bool) (n t : ℕ) (x y : Task) (tasks : List Task) → nat_eq t n ≡ b → slice_get tasks t ≡ Some x
-    → y.end ≡ x.end → cond b (may_stand (Some y)) (may_stand_at n tasks) ≡ may_stand_at n tasks
-same_by true n t x y tasks e h p = rw (← (eqb-true t n e), h) (ap {B = ℕ} (λ o. cond (is_some o) 0 1) p)
-same_by false n t x y tasks e h p = refl
+same_by : (b : Bool) (k n t : ℕ) (x y : Task) (tasks : List Task) → nat_eq t n ≡ b → slice_get tasks t ≡ Some x
+    → may_stand k (Some y) ≡ may_stand k (Some x)
+    → cond b (may_stand k (Some y)) (may_stand_at k n tasks) ≡ may_stand_at k n tasks
+same_by true k n t x y tasks e h p = rw (← (eqb-true t n e), h) p
+same_by false k n t x y tasks e h p = refl
 
-may_same : (n t : ℕ) (x y : Task) (tasks : List Task) → slice_get tasks t ≡ Some x → y.end ≡ x.end
-    → may_stand_at n (slice_set tasks t y) ≡ may_stand_at n tasks
-may_same n t x y tasks h p = may_set n t x y tasks h ∙ same_by _ n t x y tasks refl h p
+may_same : (k n t : ℕ) (x y : Task) (tasks : List Task) → slice_get tasks t ≡ Some x
+    → may_stand k (Some y) ≡ may_stand k (Some x) → may_stand_at k n (slice_set tasks t y) ≡ may_stand_at k n tasks
+may_same k n t x y tasks h p = may_set k n t x y tasks h ∙ same_by _ k n t x y tasks refl h p
 
-may_push : (n : ℕ) (y : Task) (tasks : List Task)
-    → may_stand_at n (tasks ++ y ∷ []) ≡ cond (nat_eq n (length tasks)) (may_stand (Some y)) (may_stand_at n tasks)
-may_push zero y [] = refl
-may_push (suc n) y [] = rw eqb-suc-zero refl
-may_push zero y (x ∷ tasks) = rw eqb-zero-suc refl
-may_push (suc n) y (x ∷ tasks) = rw eqb-suc-suc (may_push n y tasks)
+may_push : (k n : ℕ) (y : Task) (tasks : List Task)
+    → may_stand_at k n (tasks ++ y ∷ [])
+    ≡ cond (nat_eq n (length tasks)) (may_stand k (Some y)) (may_stand_at k n tasks)
+may_push k zero y [] = refl
+may_push k (suc n) y [] = rw eqb-suc-zero refl
+may_push k zero y (x ∷ tasks) = rw eqb-zero-suc refl
+may_push k (suc n) y (x ∷ tasks) = rw eqb-suc-suc (may_push k n y tasks)
 
--- an unended task may stand there
-unended_by : (c : Bool) (n t : ℕ) (x : Task) (tasks : List Task) → nat_eq n t ≡ c → slice_get tasks t ≡ Some x
-    → x.end ≡ None → cond c 1 0 ≤ may_stand_at n tasks
-unended_by true n t x tasks e h p =
+may_grow : (k n : ℕ) (y : Task) (tasks : List Task) → may_stand_at k n tasks ≤ may_stand_at k n (tasks ++ y ∷ [])
+may_grow k n y [] = omega arith
+may_grow k zero y (x ∷ tasks) = omega arith
+may_grow k (suc n) y (x ∷ tasks) = may_grow k n y tasks
+
+-- an unended task may stand in its Cooperator, and in no other
+here_by : (c : Bool) (k n t : ℕ) (x : Task) (tasks : List Task) → nat_eq n t ≡ c → slice_get tasks t ≡ Some x
+    → x.end ≡ None → nat_eq x.of k ≡ true → cond c 1 0 ≤ may_stand_at k n tasks
+here_by true k n t x tasks e h p q =
     let found : slice_get tasks n ≡ Some x = ap (slice_get tasks) (eqb-true n t e) ∙ h in
-    omega (arith, ap may_stand found, ap {B = ℕ} (λ o. cond (is_some o) 0 1) p)
-unended_by false n t x tasks e h p = omega arith
+    omega (
+      arith,
+      ap (may_stand k) found,
+      ap {B = ℕ} (λ o. cond (is_none o && nat_eq x.of k) 1 0) p,
+      ap {B = ℕ} (λ b. cond b 1 0) q,
+    )
+here_by false k n t x tasks e h p q = omega arith
+
+elsewhere_by : (a b : Bool) → b ≡ false → cond {A = ℕ} (a && b) 1 0 ≡ 0
+elsewhere_by true b h = ap {B = ℕ} (λ c. cond c 1 0) h
+elsewhere_by false b h = refl
 
 -- one that takes turns hasn't ended
-stands_unended : (t : ℕ) (x : Task) (tasks : List Task) → slice_get tasks t ≡ Some x → 1 ≤ may_stand_at t tasks
+stands_unended : (k t : ℕ) (x : Task) (tasks : List Task) → slice_get tasks t ≡ Some x → 1 ≤ may_stand_at k t tasks
     → x.end ≡ None
-stands_unended t x tasks h k = unended x.end (subst (λ (o : Option Task). 1 ≤ may_stand o) h k)
+stands_unended k t x tasks h m = unended x.end (subst (λ (o : Option Task). 1 ≤ may_stand k o) h m)
   where
-    unended : (o : Option TaskEnd) → 1 ≤ cond (is_some o) 0 1 → o ≡ None
+    unended : (o : Option TaskEnd) → 1 ≤ cond (is_none o && nat_eq x.of k) 1 0 → o ≡ None
     unended None z = refl
     unended (Some end) z = absurd (omega (arith, z))
 
 -- 3. What is logged of tasks.
 
--- tasks of the name were made, and have ended, as is logged; and who takes turns hasn't ended, and stands there once
-record Tallied (name : List ℕ) (c : Cooperator) (entries : List Entry) : Type 0 where
+-- tasks of the name were made, and have ended, as is logged; and who takes turns in a Cooperator is in it and hasn't
+-- ended, and stands there once
+record Tallied (name : List ℕ) (c : Cooperators) (entries : List Entry) : Type 0 where
   made : tasks_made name entries ≡ named name c.tasks
   ended : tasks_ended name entries ≡ over name c.tasks
-  turns : (n : ℕ) → standing n c.turns.tasks ≤ may_stand_at n c.tasks
+  turns : Stand c.tasks c.all
   law : EndsOnce name entries
 
 -- one more entry
-counted : (name : List ℕ) (e : Entry) (c new : Cooperator) (entries : List Entry) → Tallied name c entries
+counted : (name : List ℕ) (e : Entry) (c new : Cooperators) (entries : List Entry) → Tallied name c entries
     → named name new.tasks ≡ named name c.tasks + makes_by name (tasking_of e)
     → over name new.tasks ≡ over name c.tasks + ends_by name (tasking_of e)
-    → ((n : ℕ) → standing n new.turns.tasks ≤ may_stand_at n new.tasks)
+    → Stand new.tasks new.all
     → (e ≡ entry.Step name → over name c.tasks < named name c.tasks) → Tallied name new (entries ++ e ∷ [])
 counted name e c new entries k m o turns f =
     let made : tasks_made name (entries ++ e ∷ []) ≡ named name new.tasks =
@@ -268,69 +351,89 @@ no_step : (name : List ℕ) (e : Entry) (P : Type 0) → tasking_of e ≡ Untask
 no_step name e P a q = let same : StepsTask name ≡ Untasked = ap tasking_of (sym q) ∙ a in absurd cc
 
 -- a task that keeps its name and its end
-kept : (name : List ℕ) (e : Entry) (c new : Cooperator) (t : ℕ) (x y : Task) (entries : List Entry)
+kept : (name : List ℕ) (e : Entry) (c new : Cooperators) (t : ℕ) (x y : Task) (entries : List Entry)
     → Tallied name c entries → makes_by name (tasking_of e) ≡ 0 → ends_by name (tasking_of e) ≡ 0
     → slice_get c.tasks t ≡ Some x → new.tasks ≡ slice_set c.tasks t y → named_of name y ≡ named_of name x
     → over_of name y ≡ over_of name x
-    → ((n : ℕ) → standing n new.turns.tasks ≤ may_stand_at n new.tasks)
+    → Stand new.tasks new.all
     → (e ≡ entry.Step name → over name c.tasks < named name c.tasks) → Tallied name new (entries ++ e ∷ [])
 kept name e c new t x y entries k a b g q m o turns f =
     counted name e c new entries k
     (omega (arith, ap (named name) q, set_counts (named_of name) c.tasks t x y g, m, a))
     (omega (arith, ap (over name) q, set_counts (over_of name) c.tasks t x y g, o, b)) turns f
 
-of_entry : (name : List ℕ) (e x : Entry) (new : Cooperator) (entries : List Entry) → e ≡ x
+-- who takes turns stays
+still_stand : (c new : Cooperators) → new.tasks ≡ c.tasks → all_turns new.all ≡ all_turns c.all → Stand c.tasks c.all
+    → Stand new.tasks new.all
+still_stand c new p q k = record {
+  stand = λ j n. rw (p, taking_same j c.all new.all q) (k.stand j n);
+}
+
+of_entry : (name : List ℕ) (e x : Entry) (new : Cooperators) (entries : List Entry) → e ≡ x
     → Tallied name new (entries ++ x ∷ []) → Tallied name new (entries ++ e ∷ [])
 of_entry name e x new entries q k = subst (λ y. Tallied name new (entries ++ y ∷ [])) (sym q) k
 
-rests : (name : List ℕ) (e : Entry) (c new : Cooperator) (entries : List Entry) → tasking_of e ≡ Untasked
-    → new.tasks ≡ c.tasks → new.turns ≡ c.turns → Tallied name c entries → Tallied name new (entries ++ e ∷ [])
+rests : (name : List ℕ) (e : Entry) (c new : Cooperators) (entries : List Entry) → tasking_of e ≡ Untasked
+    → new.tasks ≡ c.tasks → all_turns new.all ≡ all_turns c.all → Tallied name c entries
+    → Tallied name new (entries ++ e ∷ [])
 rests name e c new entries a p q k =
     counted name e c new entries k (omega (arith, ap (named name) p, ap (makes_by name) a))
-    (omega (arith, ap (over name) p, ap (ends_by name) a)) (λ n. rw (p, q) (k.turns n)) (no_step name e _ a)
+    (omega (arith, ap (over name) p, ap (ends_by name) a)) (still_stand c new p q k.turns) (no_step name e _ a)
 
-makes : (name made : List ℕ) (bodies : List Body) (c : Cooperator) (entries : List Entry) → Tallied name c entries
-    → Tallied name (with_new_task made bodies c) (entries ++ entry.Task made ∷ [])
-makes name made bodies c entries k =
-    let x = new_task made bodies in
-    let now : (n : ℕ)
-    → may_stand_at n (c.tasks ++ x ∷ []) ≡ cond (nat_eq n (length c.tasks)) 1 (may_stand_at n c.tasks) =
-    λ n. may_push n x c.tasks in
-    counted name (entry.Task made) c (with_new_task made bodies c) entries k
-    (sum_by_push (named_of name) c.tasks x)
-    (sum_by_push (over_of name) c.tasks x)
-    (λ n. joins n (length c.tasks) (may_stand_at n (c.tasks ++ x ∷ [])) c.turns (omega (
-      arith,
-      now n,
-      k.turns n,
-      more_by (nat_eq n (length c.tasks)) (may_stand_at n c.tasks) (may_once (slice_get c.tasks n)),
-    )) (omega (arith, now n, one_by (nat_eq n (length c.tasks)) (may_stand_at n c.tasks)))) (λ q. absurd cc)
+makes : (name made : List ℕ) (i : ℕ) (bodies : List Body) (e : Entry) (c : Cooperators) (entries : List Entry)
+    → tasking_of e ≡ MakesTask made → Tallied name c entries
+    → Tallied name (with_new_task i made bodies c) (entries ++ e ∷ [])
+makes name made i bodies e c entries a k =
+    let x = new_task i made bodies in
+    let one : named_of name x ≡ makes_by name (tasking_of e) = sym (ap (makes_by name) a) in
+    let none : over_of name x ≡ ends_by name (tasking_of e) = sym (ap (ends_by name) a) in
+    counted name e c (with_new_task i made bodies c) entries k
+    (sum_by_push (named_of name) c.tasks x ∙ ap (λ m. named name c.tasks + m) one)
+    (sum_by_push (over_of name) c.tasks x ∙ ap (λ m. over name c.tasks + m) none)
+    (record {
+      stand =
+          λ j n.
+          let m = may_stand_at j n (c.tasks ++ x ∷ []) in
+          let old : standing n (taking_at j c.all) ≤ m = omega (arith, k.turns.stand j n, may_grow j n x c.tasks) in
+          turned_stands i j n m (joined (length c.tasks)) c.all (λ f. old)
+          (λ turns f s. joins n (length c.tasks) m turns (omega (arith, ap (standing n) s, old))
+          (omega (
+            arith,
+            may_push j n x c.tasks,
+            new_here (nat_eq n (length c.tasks)) (may_stand j (Some x)) (may_stand_at j n c.tasks)
+                (ap {B = ℕ} (λ b. cond b 1 0) f),
+          )));
+    })
+    (λ q. let same : StepsTask name ≡ MakesTask made = ap tasking_of (sym q) ∙ a in absurd cc)
   where
-    more_by : (b : Bool) (m : ℕ) → m ≤ 1 → m ≤ cond b 1 m
-    more_by true m h = h
-    more_by false m h = omega arith
-
-    one_by : (b : Bool) (m : ℕ) → cond b 1 0 ≤ cond b 1 m
-    one_by true m = omega arith
-    one_by false m = omega arith
+    new_here : (b : Bool) (m old : ℕ) → m ≡ 1 → cond b 1 0 ≤ cond b m old
+    new_here true m old h = omega (arith, h)
+    new_here false m old h = omega arith
 
 -- the one whose turn it is takes a step, so it hasn't ended
-steps : (name : List ℕ) (t : ℕ) (x : Task) (c : Cooperator) (entries : List Entry) → turn_of c.turns ≡ Some t
-    → slice_get c.tasks t ≡ Some x → Tallied name c entries
+steps : (name : List ℕ) (i t : ℕ) (x : Task) (c : Cooperators) (entries : List Entry)
+    → turn_in (slice_get c.all i) ≡ Some t → slice_get c.tasks t ≡ Some x → Tallied name c entries
     → Tallied name (with_step t x c) (entries ++ entry.Step x.name ∷ [])
-steps name t x c entries h g k =
+steps name i t x c entries h g k =
     let y : Task = record x { bodies = drop 1 x.bodies } in
     let unended =
-    stands_unended t x c.tasks g (omega (arith, stands_at t (place_of_turn c.turns) c.turns.tasks h, k.turns t)) in
+    stands_unended i t x c.tasks g (omega (arith, turn_stands t (slice_get c.all i) h, k.turns.stand i t)) in
     kept name (entry.Step x.name) c (with_step t x c) t x y entries k refl refl g refl refl refl
-    (λ n.
-    omega (arith, ap (standing n) (gone_same (turn_of c.turns) c.turns), may_same n t x y c.tasks g refl, k.turns n))
+    (record {
+      stand =
+          λ j n.
+          let m = may_stand_at j n (slice_set c.tasks t y) in
+          let old : standing n (taking_at j c.all) ≤ m =
+          omega (arith, may_same j n t x y c.tasks g refl, k.turns.stand j n) in
+          turned_stands x.of j n m gone_on c.all (λ f. old)
+          (λ turns f s. omega (arith, ap (standing n) (gone_same (turn_of turns) turns), ap (standing n) s, old));
+    })
     (λ q. unended_fewer name t x c.tasks g unended ((bytes_eq-Decides x.name name).1 (step_is x.name name q)))
   where
     step_is : (a b : List ℕ) → entry.Step a ≡ entry.Step b → a ≡ b
     step_is a b q = cc
 
-ends : (name : List ℕ) (t : ℕ) (end : TaskEnd) (x : Task) (c : Cooperator) (entries : List Entry)
+ends : (name : List ℕ) (t : ℕ) (end : TaskEnd) (x : Task) (c : Cooperators) (entries : List Entry)
     → slice_get c.tasks t ≡ Some x → x.end ≡ None → Tallied name c entries
     → Tallied name (with_end t end x c) (entries ++ entry.End x.name (result_of x.name end) ∷ [])
 ends name t end x c entries g u k =
@@ -339,62 +442,101 @@ ends name t end x c entries g u k =
     counted name (entry.End x.name (result_of x.name end)) c (with_end t end x c) entries k
     (omega (arith, set_counts (named_of name) c.tasks t x y g))
     (omega (arith, set_counts (over_of name) c.tasks t x y g, none))
-    (λ n. ended_stands (nat_eq t n) n t y c refl (leaves n t c.turns.tasks) (k.turns n) (may_once (slice_get c.tasks n))
-    (may_set n t x y c.tasks g) refl) (λ q. absurd cc)
+    (record {
+      stand =
+          λ j n.
+          turned_stands x.of j n (may_stand_at j n (slice_set c.tasks t y)) (left t) c.all
+          (λ f. omega (
+            arith,
+            may_set j n t x y c.tasks g,
+            left_elsewhere (nat_eq t n) j n t x c.tasks refl g f,
+            k.turns.stand j n,
+          ))
+          (λ turns f s. omega (
+            arith,
+            may_set j n t x y c.tasks g,
+            left_here (nat_eq t n) n t (standing n turns.tasks) (may_stand_at j n c.tasks) refl
+                (omega (arith, ap (standing n) s, k.turns.stand j n)) (may_once j (slice_get c.tasks n)),
+            leaves n t turns.tasks,
+          ));
+    })
+    (λ q. absurd cc)
   where
-    ended_stands : (b : Bool) (n t : ℕ) (y : Task) (c : Cooperator) → nat_eq t n ≡ b
-        → standing n (remove_key (nat_eq t) c.turns.tasks) ≤ standing n c.turns.tasks - one_of n t
-        → standing n c.turns.tasks ≤ may_stand_at n c.tasks → may_stand_at n c.tasks ≤ 1
-        → may_stand_at n (slice_set c.tasks t y) ≡ cond b (may_stand (Some y)) (may_stand_at n c.tasks)
-        → may_stand (Some y) ≡ 0
-        → standing n (remove_key (nat_eq t) c.turns.tasks) ≤ may_stand_at n (slice_set c.tasks t y)
-    ended_stands true n t y c e h k o m z =
-        let one : one_of n t ≡ 1 = ap {B = ℕ} (λ b. cond b 1 0) (ap (λ x. nat_eq n x) (eqb-true t n e) ∙ is_itself n) in
-        omega (arith, h, k, o, one)
-    ended_stands false n t y c e h k o m z = omega (arith, h, k, m)
+    -- in another Cooperator it didn't stand before
+    left_elsewhere : (b : Bool) (j n t : ℕ) (x : Task) (tasks : List Task) → nat_eq t n ≡ b
+        → slice_get tasks t ≡ Some x → nat_eq x.of j ≡ false → may_stand_at j n tasks ≤ cond b 0 (may_stand_at j n tasks)
+    left_elsewhere true j n t x tasks e h f =
+        let found : slice_get tasks n ≡ Some x = ap (slice_get tasks) (sym (eqb-true t n e)) ∙ h in
+        omega (arith, ap (may_stand j) found, elsewhere_by (is_none x.end) (nat_eq x.of j) f)
+    left_elsewhere false j n t x tasks e h f = omega arith
 
-pauses : (name : List ℕ) (e : Entry) (t : ℕ) (x : Task) (c : Cooperator) (entries : List Entry)
+    -- and in its own it stood once at most
+    left_here : (b : Bool) (n t s m : ℕ) → nat_eq t n ≡ b → s ≤ m → m ≤ 1 → s - one_of n t ≤ cond b 0 m
+    left_here true n t s m e h o =
+        let one : one_of n t ≡ 1 = ap {B = ℕ} (λ b. cond b 1 0) (ap (λ x. nat_eq n x) (eqb-true t n e) ∙ is_itself n) in
+        omega (arith, h, o, one)
+    left_here false n t s m e h o = omega (arith, h)
+
+pauses : (name : List ℕ) (e : Entry) (t : ℕ) (x : Task) (c : Cooperators) (entries : List Entry)
     → tasking_of e ≡ Untasked → slice_get c.tasks t ≡ Some x → Tallied name c entries
     → Tallied name (with_pause t x c) (entries ++ e ∷ [])
 pauses name e t x c entries a g k =
     let y : Task = record x { pauses = x.pauses + 1 } in
     kept name e c (with_pause t x c) t x y entries k (ap (makes_by name) a) (ap (ends_by name) a) g refl refl refl
-    (λ n. omega (arith, leaves n t c.turns.tasks, may_same n t x y c.tasks g refl, k.turns n)) (no_step name e _ a)
+    (record {
+      stand =
+          λ j n.
+          let m = may_stand_at j n (slice_set c.tasks t y) in
+          let old : standing n (taking_at j c.all) ≤ m =
+          omega (arith, may_same j n t x y c.tasks g refl, k.turns.stand j n) in
+          turned_stands x.of j n m (left t) c.all (λ f. old)
+          (λ turns f s. omega (arith, leaves n t turns.tasks, ap (standing n) s, old));
+    })
+    (no_step name e _ a)
 
-resumed_by : (b : Bool) (n t m : ℕ) (o : Option TaskEnd) (p : Bool) (turns : Turns) → (p && is_none o) ≡ b
-    → standing n turns.tasks ≤ m → (o ≡ None → one_of n t ≤ m)
-    → standing n (if b then joined t turns else turns).tasks ≤ m
-resumed_by true n t m None p turns q h k = joins n t m turns h (k refl)
-resumed_by true n t m (Some end) true turns q h k = absurd cc
-resumed_by true n t m (Some end) false turns q h k = absurd cc
-resumed_by false n t m o p turns q h k = h
+resumed_by : (b : Bool) (i j n t m : ℕ) (o : Option TaskEnd) (p : Bool) (all : List Cooperator) → (p && is_none o) ≡ b
+    → standing n (taking_at j all) ≤ m → (o ≡ None → nat_eq i j ≡ true → one_of n t ≤ m)
+    → standing n (taking_at j (if b then turned i (joined t) all else all)) ≤ m
+resumed_by true i j n t m None p all q h k =
+    turned_stands i j n m (joined t) all (λ f. h)
+    (λ turns f s. joins n t m turns (omega (arith, ap (standing n) s, h)) (k refl f))
+resumed_by true i j n t m (Some end) true all q h k = absurd cc
+resumed_by true i j n t m (Some end) false all q h k = absurd cc
+resumed_by false i j n t m o p all q h k = h
 
-resumes : (name : List ℕ) (e : Entry) (t : ℕ) (x : Task) (c : Cooperator) (entries : List Entry)
+resumes : (name : List ℕ) (e : Entry) (t : ℕ) (x : Task) (c : Cooperators) (entries : List Entry)
     → tasking_of e ≡ Untasked → slice_get c.tasks t ≡ Some x → Tallied name c entries
     → Tallied name (with_resume t x c) (entries ++ e ∷ [])
 resumes name e t x c entries a g k =
     let y : Task = record x { pauses = x.pauses - 1 } in
     kept name e c (with_resume t x c) t x y entries k (ap (makes_by name) a) (ap (ends_by name) a) g refl refl refl
-    (λ n.
-    let same = may_same n t x y c.tasks g refl in
-    resumed_by _ n t (may_stand_at n (slice_set c.tasks t y)) x.end (nat_eq x.pauses 1) c.turns refl
-    (omega (arith, same, k.turns n)) (λ u. omega (arith, same, unended_by (nat_eq n t) n t x c.tasks refl g u)))
+    (record {
+      stand =
+          λ j n.
+          let same = may_same j n t x y c.tasks g refl in
+          resumed_by _ x.of j n t (may_stand_at j n (slice_set c.tasks t y)) x.end (nat_eq x.pauses 1) c.all refl
+          (omega (arith, same, k.turns.stand j n))
+          (λ u f. omega (arith, same, here_by (nat_eq n t) j n t x c.tasks refl g u f));
+    })
     (no_step name e _ a)
 
-awaits : (name : List ℕ) (e : Entry) (t d : ℕ) (x : Task) (c : Cooperator) (entries : List Entry)
+awaits : (name : List ℕ) (e : Entry) (t d : ℕ) (x : Task) (c : Cooperators) (entries : List Entry)
     → tasking_of e ≡ Untasked → slice_get c.tasks t ≡ Some x → Tallied name c entries
     → Tallied name (with_waiting t d x c) (entries ++ e ∷ [])
 awaits name e t d x c entries a g k =
     let y : Task = record x { waiting = if is_none x.end then x.waiting ++ d ∷ [] else x.waiting } in
     kept name e c (with_waiting t d x c) t x y entries k (ap (makes_by name) a) (ap (ends_by name) a) g refl refl refl
-    (λ n. omega (arith, may_same n t x y c.tasks g refl, k.turns n)) (no_step name e _ a)
+    (record { stand = λ j n. omega (arith, may_same j n t x y c.tasks g refl, k.turns.stand j n) }) (no_step name e _ a)
 
-tasked : (name : List ℕ) (e : Entry) (c new : Cooperator) (entries : List Entry) → Tasks e c new
+tasked : (name : List ℕ) (e : Entry) (c new : Cooperators) (entries : List Entry) → Tasks e c new
     → Tallied name c entries → Tallied name new (entries ++ e ∷ [])
 tasked name e c new entries (TasksRest other a p q) k = rests name e c other entries a p q k
 tasked name e c new entries (TaskMade made bodies q) k =
-    of_entry name e _ _ entries q (makes name made bodies c entries k)
-tasked name e c new entries (TaskSteps t x h g q) k = of_entry name e _ _ entries q (steps name t x c entries h g k)
+    makes name made 0 bodies e c entries (ap tasking_of q) k
+tasked name e c new entries (TaskMadeIn i made of bodies q) k =
+    makes name made i bodies e c entries (ap tasking_of q) k
+tasked name e c new entries (TaskSteps i t x h g q) k =
+    of_entry name e _ _ entries q (steps name i t x c entries h g k)
 tasked name e c new entries (TaskEnds t end x g u q) k =
     of_entry name e _ _ entries q (ends name t end x c entries g u k)
 tasked name e c new entries (TaskPaused t x g a) k = pauses name e t x c entries a g k
@@ -403,26 +545,26 @@ tasked name e c new entries (TaskAwaited t d x g a) k = awaits name e t d x c en
 
 -- if it was so before, it is so after
 record Goes (name : List ℕ) (w u : World) : Type 0 where
-  goes_on : Tallied name w.objects.cooperator w.journal.entries → Tallied name u.objects.cooperator u.journal.entries
+  goes_on : Tallied name w.objects.cooperators w.journal.entries → Tallied name u.objects.cooperators u.journal.entries
 
 -- an entry of a Deferred
 plain : (name : List ℕ) (e : Entry) (w u : World) → tasking_of e ≡ Untasked
-    → u.objects.cooperator ≡ w.objects.cooperator → u.journal.entries ≡ w.journal.entries ++ e ∷ [] → Goes name w u
+    → u.objects.cooperators ≡ w.objects.cooperators → u.journal.entries ≡ w.journal.entries ++ e ∷ [] → Goes name w u
 plain name e w u a p q = record {
-  goes_on = λ k. rw (p, q) (rests name e w.objects.cooperator w.objects.cooperator w.journal.entries a refl refl k);
+  goes_on = λ k. rw (p, q) (rests name e w.objects.cooperators w.objects.cooperators w.journal.entries a refl refl k);
 }
 
-arranged : (name : List ℕ) (c new : Cooperator) (entries : List Entry) → new.tasks ≡ c.tasks → new.turns ≡ c.turns
-    → Tallied name c entries → Tallied name new entries
+arranged : (name : List ℕ) (c new : Cooperators) (entries : List Entry) → new.tasks ≡ c.tasks
+    → all_turns new.all ≡ all_turns c.all → Tallied name c entries → Tallied name new entries
 arranged name c new entries p q k = record {
   made = k.made ∙ ap (named name) (sym p);
   ended = k.ended ∙ ap (over name) (sym p);
-  turns = λ n. rw (p, q) (k.turns n);
+  turns = still_stand c new p q k.turns;
   law = k.law;
 }
 
 named_same : (name : Option (List ℕ)) (d : ℕ) (objects : Objects)
-    → (naming_where name d objects).cooperator ≡ objects.cooperator
+    → (naming_where name d objects).cooperators ≡ objects.cooperators
 named_same None d objects = refl
 named_same (Some name) d objects = refl
 
@@ -460,6 +602,20 @@ settles name = record {
   advances = λ ticks w x s. plain name (entry.Advance _) w _ refl refl refl;
 }
 
+-- nobody takes turns at first
+nobody_stands : (k n : ℕ) (named : List NamedCooperator) → standing n (taking_at k (map named_cooperator named)) ≤ 0
+nobody_stands k n [] = omega arith
+nobody_stands zero n (x ∷ named) = omega arith
+nobody_stands (suc k) n (x ∷ named) = nobody_stands k n named
+
+first_stand : (settings : Settings) (named : List NamedCooperator)
+    → Stand [] (new_cooperators settings named).all
+first_stand settings named = record { stand = first }
+  where
+    first : (k n : ℕ) → standing n (taking_at k (new_cooperators settings named).all) ≤ may_stand_at k n []
+    first zero n = omega arith
+    first (suc k) n = nobody_stands k n named
+
 -- so it is in a run
 world_ends_once : (name : List ℕ) (script : Script) (batches : List Batch) (w : World) → Means script batches w
     → EndsOnce name w.journal.entries
@@ -467,7 +623,7 @@ world_ends_once name script batches w m =
     ((means_keeps (Goes name) (settles name) script batches w m).goes_on (record {
       made = refl;
       ended = refl;
-      turns = λ n. omega arith;
+      turns = first_stand script.cooperator script.cooperators;
       law = record {
         once = no_places (λ told. tasks_ended name told ≤ tasks_made name told) (omega arith);
         steps = no_entries (λ told x. x ≡ entry.Step name → tasks_ended name told < tasks_made name told);

@@ -37,6 +37,7 @@ later_told : (time : ℕ) (due_for : Due) (due : ℕ) → time ≤ due → IsTol
 later_told time (what.Call name key) due h = h
 later_told time (what.Turn name key) due h = h
 later_told time what.Tick due h = h
+later_told time (what.TickIn name k) due h = h
 later_told time (what.Delivery job key) due h = h
 later_told time (what.Timeout d) due h = h
 
@@ -44,6 +45,7 @@ run_told : (time : ℕ) (due_for : Due) → IsTold time (timing_of (entry_when_d
 run_told time (what.Call name key) = tt
 run_told time (what.Turn name key) = tt
 run_told time what.Tick = tt
+run_told time (what.TickIn name k) = tt
 run_told time (what.Delivery job key) = tt
 run_told time (what.Timeout d) = tt
 

@@ -5,7 +5,7 @@ use Rattle.std.specs.Prelude.{None, Some, fold, sum_by}
 use Rattle.dv_journal.specs.declared.entry.Entry.{Entry}
 use Rattle.dv_journal.specs.declared.entry.Entry.TheVariants as entry
 use Rattle.dv_journal.specs.Told as tells
-use Rattle.dv_journal.specs.Told.{Timed, Called, Ticking, Delivered, TimedOut, Told, told_of}
+use Rattle.dv_journal.specs.Told.{Timed, Called, Ticking, TickingIn, Delivered, TimedOut, Told, told_of}
 use Rattle.dv_script.specs.declared.script.Script.{Script}
 use Rattle.dv_engine.specs.Report.{Reports}
 use Rattle.dv_engine.specs.declared.report.Report.{Report}
@@ -17,18 +17,27 @@ use Rattle.dv_laws.specs.Times.{Timing, timing_of, Untimed, Advances, Schedules}
 abbrev pub is_same : Timed → Timed → Bool
 is_same (Called name) (Called other) = bytes_eq name other
 is_same (Called name) Ticking = false
+is_same (Called name) (TickingIn other) = false
 is_same (Called name) (Delivered other) = false
 is_same (Called name) (TimedOut other) = false
 is_same Ticking (Called other) = false
 is_same Ticking Ticking = true
+is_same Ticking (TickingIn other) = false
 is_same Ticking (Delivered other) = false
 is_same Ticking (TimedOut other) = false
+is_same (TickingIn name) (Called other) = false
+is_same (TickingIn name) Ticking = false
+is_same (TickingIn name) (TickingIn other) = bytes_eq name other
+is_same (TickingIn name) (Delivered other) = false
+is_same (TickingIn name) (TimedOut other) = false
 is_same (Delivered job) (Called other) = false
 is_same (Delivered job) Ticking = false
+is_same (Delivered job) (TickingIn other) = false
 is_same (Delivered job) (Delivered other) = nat_eq job other
 is_same (Delivered job) (TimedOut other) = false
 is_same (TimedOut d) (Called other) = false
 is_same (TimedOut d) Ticking = false
+is_same (TimedOut d) (TickingIn other) = false
 is_same (TimedOut d) (Delivered other) = false
 is_same (TimedOut d) (TimedOut other) = nat_eq d other
 
@@ -78,12 +87,14 @@ endings t entries = sum_by (λ e. count_of t (ended_by e)) entries
 abbrev pub later_of : Timed → ℕ → Entry
 later_of (Called name) due = entry.LaterCall name due
 later_of Ticking due = entry.LaterTick due
+later_of (TickingIn name) due = entry.LaterTickIn name due
 later_of (Delivered job) due = entry.LaterJob job due
 later_of (TimedOut d) due = entry.LaterTimeout d due
 
 abbrev pub run_of : Timed → Entry
 run_of (Called name) = entry.Call name
 run_of Ticking = entry.Tick
+run_of (TickingIn name) = entry.TickIn name
 run_of (Delivered job) = entry.Deliver job
 run_of (TimedOut d) = entry.Timeout d
 

@@ -58,7 +58,7 @@ pub fn waits_end()
 /// of them. Each call that is scheduled is run once at most, not after it was cancelled and not
 /// before its time; of two that are scheduled once each the one that is due earlier is run first,
 /// and of those that are due at one time the one that was scheduled first. So it is with the
-/// cooperator's ticks, deliveries and timers.
+/// ticks of Cooperators, deliveries and timers.
 pub fn time_goes_on()
     ensures falls { TimeNeverFalls }
     ensures calls { CallsRunOnceInTime }
@@ -76,7 +76,7 @@ pub fn all_that_may_run_has_run()
     ensures hanging { WaitersHang }
 {}
 
-/// In a run each task of the Cooperator ends once at most, and takes no step after it has ended.
+/// In a run each task of a Cooperator ends once at most, and takes no step after it has ended.
 pub fn tasks_end()
     ensures once { TasksEndOnce }
 {}

@@ -73,10 +73,10 @@ in_a_row first a b c d e =
 abbrev pub gathered_of : World → Gathered
 gathered_of w =
     with_hung (hung_beside (map lock_of w.objects.semaphores)
-    (map queue_of w.objects.queues) w.objects.clock.calls w.objects.loops w.objects.cooperator.tasks)
+    (map queue_of w.objects.queues) w.objects.clock.calls w.objects.loops w.objects.cooperators.tasks)
     (with_links (by_records hung_by 0 w.records) (by_records turn_held_by 0 w.records)
     (by_records task_held_by 0 w.records)
-    (no_links (length w.records) (length w.objects.loops) (length w.objects.cooperator.tasks)))
+    (no_links (length w.records) (length w.objects.loops) (length w.objects.cooperators.tasks)))
 
 -- all that hang are gathered
 all_gathered : (w : World) → (gathered_of w).deferreds ≡ all_joined (hung w) (replicate (length w.records) [])
@@ -86,11 +86,11 @@ all_gathered w =
     let own = by_records hung_by 0 w.records in
     let calls = hung_at_calls o.clock.calls in
     let loops = hung_at_loops 0 o.loops in
-    let tasks = hung_in_lines hang.Task 0 (map (λ x. x.waiting) o.cooperator.tasks) in
+    let tasks = hung_in_lines hang.Task 0 (map (λ x. x.waiting) o.cooperators.tasks) in
     let at_locks = hung_in_lines hang.Lock 0 (map (λ p. p.waiting) (map lock_of o.semaphores)) in
     let at_queues = hung_in_lines hang.Queue 0 (map (λ p. p.waiting) (map queue_of o.queues)) in
     sym (joined_both own
-    (hung_beside (map lock_of o.semaphores) (map queue_of o.queues) o.clock.calls o.loops o.cooperator.tasks) empty)
+    (hung_beside (map lock_of o.semaphores) (map queue_of o.queues) o.clock.calls o.loops o.cooperators.tasks) empty)
     ∙ ap (λ links. all_joined links empty) (in_a_row own at_locks at_queues calls loops tasks)
     ∙ ap (λ lines. all_joined (own ++ hung_in_lines hang.Lock 0 lines ++ at_queues ++ calls ++ loops ++ tasks) empty)
     (waiting_locks o.semaphores)
@@ -100,7 +100,7 @@ all_gathered w =
 -- what is reported with the links that are gathered is what is left
 pub left_told : (w : World) (links : Gathered) → links ≡ gathered_of w →
     left_deferreds (λ d. list_at d links.deferreds) 0 (map standing_of w.records)
-    ++ left_beside links w.objects.clock.calls w.objects.loops w.objects.cooperator.tasks
+    ++ left_beside links w.objects.clock.calls w.objects.loops w.objects.cooperators.tasks
     (map lock_of w.objects.semaphores) (map queue_of w.objects.queues)
     ++ left_unhandled 0 w.journal.entries ≡ left_of w
 left_told w links is =
@@ -109,7 +109,7 @@ left_told w links is =
     let n = length w.records in
     let deferreds = left_deferreds (λ d. items_of d (hung w)) 0 (map standing_of w.records) in
     let loops = left_loops (λ l. items_of l (turns_held w)) calls 0 o.loops in
-    let tasks = left_tasks (λ t. items_of t (tasks_held w)) 0 o.cooperator.tasks in
+    let tasks = left_tasks (λ t. items_of t (tasks_held w)) 0 o.cooperators.tasks in
     let locks = left_locks 0 (map lock_of o.semaphores) in
     let queues = left_queues 0 (map queue_of o.queues) in
     let unhandled = left_unhandled 0 w.journal.entries in
@@ -118,23 +118,23 @@ left_told w links is =
     ∙ told_whole d n (hung w) low in
     let turns : (l : ℕ) → l < length o.loops → list_at l links.loops ≡ items_of l (turns_held w) =
     λ l low. ap (λ (g : Gathered). list_at l g.loops) is ∙ told_whole l (length o.loops) (turns_held w) low in
-    let holds : (t : ℕ) → t < length o.cooperator.tasks → list_at t links.tasks ≡ items_of t (tasks_held w) =
+    let holds : (t : ℕ) → t < length o.cooperators.tasks → list_at t links.tasks ≡ items_of t (tasks_held w) =
     λ t low. ap (λ (g : Gathered). list_at t g.tasks) is
-    ∙ told_whole t (length o.cooperator.tasks) (tasks_held w) low in
+    ∙ told_whole t (length o.cooperators.tasks) (tasks_held w) low in
     let count : 0 + length (map standing_of w.records) ≡ n = omega (arith, length-map w.records standing_of) in
     let count_loops : 0 + length o.loops ≡ length o.loops = omega arith in
-    let count_tasks : 0 + length o.cooperator.tasks ≡ length o.cooperator.tasks = omega arith in
-    ap (λ x. x ++ left_beside links calls o.loops o.cooperator.tasks (map lock_of o.semaphores) (map queue_of o.queues)
+    let count_tasks : 0 + length o.cooperators.tasks ≡ length o.cooperators.tasks = omega arith in
+    ap (λ x. x ++ left_beside links calls o.loops o.cooperators.tasks (map lock_of o.semaphores) (map queue_of o.queues)
     ++ unhandled)
     (same_deferreds (λ d. list_at d links.deferreds) (λ d. items_of d (hung w)) n 0
     (map standing_of w.records) count hangs)
-    ∙ ap (λ x. deferreds ++ (left_calls calls ++ x ++ left_tasks (λ t. list_at t links.tasks) 0 o.cooperator.tasks
+    ∙ ap (λ x. deferreds ++ (left_calls calls ++ x ++ left_tasks (λ t. list_at t links.tasks) 0 o.cooperators.tasks
     ++ locks ++ queues) ++ unhandled)
     (same_loops (λ l. list_at l links.loops) (λ l. items_of l (turns_held w)) calls
     (length o.loops) 0 o.loops count_loops turns)
     ∙ ap (λ x. deferreds ++ (left_calls calls ++ loops ++ x ++ locks ++ queues) ++ unhandled)
     (same_tasks (λ t. list_at t links.tasks) (λ t. items_of t (tasks_held w))
-    (length o.cooperator.tasks) 0 o.cooperator.tasks count_tasks holds)
+    (length o.cooperators.tasks) 0 o.cooperators.tasks count_tasks holds)
     ∙ ap (λ x. x ++ unhandled) (in_a_row deferreds (left_calls calls) loops tasks locks queues)
 
 -- what is reported one after the other is reported as a whole
@@ -144,10 +144,10 @@ pub told_in_turn : (w : World) (links : Gathered) (none first second third : Lis
     third ≡ second ++ left_unhandled 0 entries → second ≡ first ++ left_beside links calls loops tasks locks queues
     → first ≡ none ++ left_deferreds (λ d. list_at d links.deferreds) 0 standings → none ≡ [] →
     standings ≡ map standing_of w.records → calls ≡ w.objects.clock.calls → loops ≡ w.objects.loops
-    → tasks ≡ w.objects.cooperator.tasks →
+    → tasks ≡ w.objects.cooperators.tasks →
     locks ≡ map lock_of w.objects.semaphores → queues ≡ map queue_of w.objects.queues → entries ≡ w.journal.entries →
     third ≡ left_deferreds (λ d. list_at d links.deferreds) 0 (map standing_of w.records)
-    ++ left_beside links w.objects.clock.calls w.objects.loops w.objects.cooperator.tasks
+    ++ left_beside links w.objects.clock.calls w.objects.loops w.objects.cooperators.tasks
     (map lock_of w.objects.semaphores) (map queue_of w.objects.queues)
     ++ left_unhandled 0 w.journal.entries
 told_in_turn w links none first second third standings calls loops tasks locks queues entries a b c d e f g h i j k =

@@ -101,6 +101,7 @@ abbrev pub hung_at_call : ℕ → CallState → Links Hang
 hung_at_call due (Waiting (what.Call name key)) = []
 hung_at_call due (Waiting (what.Turn name key)) = []
 hung_at_call due (Waiting what.Tick) = []
+hung_at_call due (Waiting (what.TickIn name key)) = []
 hung_at_call due (Waiting (what.Delivery job d)) = (d, hang.Job job) ∷ []
 hung_at_call due (Waiting (what.Timeout d)) = (d, hang.Timeout due) ∷ []
 hung_at_call due Called = []
@@ -124,7 +125,7 @@ hung w =
     ++ hung_in_lines hang.Queue 0 (map (λ q. q.waiting) w.objects.queues)
     ++ hung_at_calls w.objects.clock.calls
     ++ hung_at_loops 0 w.objects.loops
-    ++ hung_in_lines hang.Task 0 (map (λ x. x.waiting) w.objects.cooperator.tasks)
+    ++ hung_in_lines hang.Task 0 (map (λ x. x.waiting) w.objects.cooperators.tasks)
 
 -- which Deferreds the turns of loops wait for
 abbrev pub turns_held : World → Links ℕ

@@ -88,6 +88,7 @@ abbrev pub left_call : ℕ → CallState → List Left
 left_call due (Waiting (what.Call name number)) = left.Call number due ∷ []
 left_call due (Waiting (what.Turn name key)) = []
 left_call due (Waiting what.Tick) = left.Tick due ∷ []
+left_call due (Waiting (what.TickIn name key)) = left.TickIn name due ∷ []
 left_call due (Waiting (what.Delivery job d)) = left.Delivery job d due ∷ []
 left_call due (Waiting (what.Timeout d)) = left.Timeout d due ∷ []
 left_call due Called = []
@@ -173,7 +174,7 @@ left_of w =
     left_deferreds (λ d. items_of d (hung w)) 0 (map standing_of w.records)
     ++ left_calls w.objects.clock.calls
     ++ left_loops (λ l. items_of l (turns_held w)) w.objects.clock.calls 0 w.objects.loops
-    ++ left_tasks (λ t. items_of t (tasks_held w)) 0 w.objects.cooperator.tasks
+    ++ left_tasks (λ t. items_of t (tasks_held w)) 0 w.objects.cooperators.tasks
     ++ left_locks 0 (map lock_of w.objects.semaphores)
     ++ left_queues 0 (map queue_of w.objects.queues)
     ++ left_unhandled 0 w.journal.entries

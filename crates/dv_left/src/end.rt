@@ -125,7 +125,7 @@ fn add_rest<'s>(
     ensures { OnOk result (left.new
         ≡ left.old ++ left_beside links.now calls.now loops.now tasks.now locks.now queues.items) }
 {
-    add_calls(left, calls)?;
+    add_calls(alloc, left, calls)?;
     add_loops(alloc, left, loops, calls, &links.loops)?;
     add_tasks(alloc, left, tasks, &links.tasks)?;
     add_locks(alloc, left, locks)?;

@@ -1,6 +1,7 @@
 use dv_journal::deferred_id::DeferredId;
 use dv_value::deque::Deque;
 use dv_value::items::Items;
+use dv_value::text::Text;
 use dv_value::value::Value;
 
 /// At what a Deferred hangs. Locks, queues, loops, tasks and jobs have their numbers, in order of
@@ -97,6 +98,8 @@ pub enum Left {
     Call(u32, u64),
     /// A tick of the Cooperator, and when it is due.
     Tick(u64),
+    /// A tick of the Cooperator of this name, and when it is due.
+    TickIn(Text, u64),
     /// The result of this job for this Deferred, and when it is due.
     Delivery(u32, DeferredId, u64),
     /// The end of the time of this Deferred, and when it is due.

@@ -159,7 +159,7 @@ impl Links {
                 self.hang(DeferredId::new(*id), Hang::Job(*job))
             }
             CallState::Waiting(Due::Timeout(id)) => self.hang(*id, Hang::Timeout(call.due)),
-            CallState::Waiting(Due::Call(_, _) | Due::Turn(_, _) | Due::Tick)
+            CallState::Waiting(Due::Call(_, _) | Due::Turn(_, _) | Due::Tick | Due::TickIn(_, _))
             | CallState::Called
             | CallState::Cancelled
             | CallState::Dropped => Ok(()),

@@ -138,21 +138,24 @@ fn add_deferred(
 }
 
 /// What is left on the clock, but for turns of loops.
-pub fn add_calls(left: &mut Items<Left>, calls: &[Call]) -> Result<(), AllocError>
+pub fn add_calls(alloc: Global, left: &mut Items<Left>, calls: &[Call]) -> Result<(), AllocError>
     ensures { OnOk result (left.new ≡ left.old ++ left_calls calls.now) }
 {
     for call in calls {
-        add_call(left, call)?;
+        add_call(alloc, left, call)?;
     }
     Ok(())
 }
 
-fn add_call(left: &mut Items<Left>, call: &Call) -> Result<(), AllocError>
+fn add_call(alloc: Global, left: &mut Items<Left>, call: &Call) -> Result<(), AllocError>
     ensures { OnOk result (left.new ≡ left.old ++ left_call call.now.due call.now.state) }
 {
     match &call.state {
         CallState::Waiting(Due::Call(_, number)) => left.push(Left::Call(*number, call.due)),
         CallState::Waiting(Due::Tick) => left.push(Left::Tick(call.due)),
+        CallState::Waiting(Due::TickIn(name, _)) => {
+            left.push(Left::TickIn(name.copy(alloc)?, call.due))
+        }
         CallState::Waiting(Due::Delivery(job, id)) => {
             left.push(Left::Delivery(*job, DeferredId::new(*id), call.due))
         }

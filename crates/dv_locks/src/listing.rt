@@ -159,7 +159,8 @@ fn fire_at_once<'s>(turn: &mut Turn<'s>, id: DeferredId, at_once: bool) -> Resul
     if !at_once {
         return Ok(());
     }
-    fire_and_settle(turn, id, Value::List(Items::new(turn.alloc)))
+    let none = Value::list(turn.alloc, Items::new(turn.alloc))?;
+    fire_and_settle(turn, id, none)
 }
 
 /// A child of a DeferredList fired with this value, which may fire the list; then the child goes on

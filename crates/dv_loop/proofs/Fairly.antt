@@ -3,7 +3,6 @@ use Rattle.std.proofs.Common.{◌≡◌, ℕ, ◌+◌, ◌<◌, List, arith, ◌
 use Rattle.std.proofs.Common.{Bool, true, false, if◌then◌else◌, ◌++◌, slice_get, length}
 use Rattle.dv_clock.specs.Clock.{Upcoming, next_call}
 use Rattle.dv_clock.specs.Due.{entry_when_due}
-use Rattle.dv_clock.specs.Turns.{turn_of}
 use Rattle.dv_clock.specs.declared.call.CallState.TheVariants as call_state
 use Rattle.dv_clock.specs.declared.due.Due.{Due}
 use Rattle.dv_definition.specs.Definition as page
@@ -28,7 +27,7 @@ use Rattle.dv_inline.specs.declared.request.Request.{Request}
 use Rattle.dv_journal.specs.Told.{change_of, Aside}
 use Rattle.dv_journal.specs.declared.entry.Entry.TheVariants as entry
 use Rattle.dv_journal.specs.declared.entry.Entry.{Entry}
-use Rattle.dv_objects.specs.Cooperator.{with_step}
+use Rattle.dv_objects.specs.Cooperator.{turn_in, with_step}
 use Rattle.dv_objects.specs.Inlines.{Inlines, end_adding, end_adding_at}
 use Rattle.dv_objects.specs.Objects.{Objects, with_ended_call, cooperating, inlining}
 use Rattle.dv_objects.specs.Pair.{Pair}
@@ -46,7 +45,7 @@ use Rattle.dv_loop.proofs.Budget.{step_took, cancel_took, aside_took}
 use Rattle.dv_loop.proofs.Fair.{Fair, Falls, can, lighter, paid, pays}
 use Rattle.dv_loop.proofs.InlineSizes.{action_text, answer_text, run_text}
 use Rattle.dv_loop.proofs.Lighter.{IsSame, Known, Light, Lighter, Or, Pays, Within, actions_size, begun_fits, cancel}
-use Rattle.dv_loop.proofs.Lighter.{carry_out, end_task, notify, one_if_some, paid_by, rank, text_of, waiting_by}
+use Rattle.dv_loop.proofs.Lighter.{carry_out, end_task, halt_task, notify, one_if_some, paid_by, rank, text_of, waiting_by}
 use Rattle.dv_loop.proofs.Lighter.{waiting_text}
 use Rattle.dv_loop.proofs.RuleComes.{rule_comes}
 use Rattle.dv_loop.proofs.StepsCome.{by_aside, step_comes, question_comes, due_aside}
@@ -58,7 +57,7 @@ use Rattle.dv_store.specs.declared.store.Step.TheVariants.{Nothing, Passed, Run,
 use Rattle.dv_store.specs.declared.store.Step.{Step as Move}
 use Rattle.dv_value.specs.declared.value.Value.{Value, Null, Fault}
 use Rattle.dv_world.specs.World as world
-use Rattle.dv_world.specs.World.{World, aside, arrange, step_taken, turn_taken, take_due_found, end_await}
+use Rattle.dv_world.specs.World.{World, aside, arrange, cooperator_of, step_taken, turn_taken, take_due_found, end_await}
 
 -- 1. A question's answer pays, and is known, as `Lighter` says.
 
@@ -92,7 +91,7 @@ known (GetFrom k d) w = tt
 known (ChildFired l i v) w = tt
 known (CancelCall number) w = tt
 known (ResetCall number from delay) w = tt
-known TakeStep w = tt
+known (TakeStep k) w = tt
 known (EndTask t end) w = tt
 known (ResumeInline i v) w = tt
 known (EndAwait i e p) w = end_await_same i e p w
@@ -111,7 +110,7 @@ step_pays t (Some x) w =
 
 turn_pays : (o : Option ℕ) (w : World) → can (turn_taken o w).1 + one_if_some (turn_taken o w).0 ≤ can w
 turn_pays None w = omega arith
-turn_pays (Some t) w = step_pays t (slice_get w.objects.cooperator.tasks t) w
+turn_pays (Some t) w = step_pays t (slice_get w.objects.cooperators.tasks t) w
 
 due_pays : (o : Option Upcoming) (w : World) → can (take_due_found o w).1 + one_if_some (take_due_found o w).0 ≤ can w
 due_pays None w = omega arith
@@ -132,7 +131,7 @@ asked_pays (GetFrom k d) w = plain_pays (GetFrom k d) w
 asked_pays (ChildFired l i v) w = plain_pays (ChildFired l i v) w
 asked_pays (CancelCall number) w = plain_pays (CancelCall number) w
 asked_pays (ResetCall number from delay) w = plain_pays (ResetCall number from delay) w
-asked_pays TakeStep w = turn_pays (turn_of w.objects.cooperator.turns) w
+asked_pays (TakeStep k) w = turn_pays (turn_in (cooperator_of k w)) w
 asked_pays (EndTask t end) w = plain_pays (EndTask t end) w
 asked_pays (ResumeInline i v) w = plain_pays (ResumeInline i v) w
 asked_pays (EndAwait i e p) w = plain_pays (EndAwait i e p) w
@@ -223,12 +222,12 @@ after_step : (m t : ℕ) (p : Performed) → 1 < m → Within m (page.after_step
 after_step m t Done q = tt
 after_step m t (Gave v) q = (tt, λ failure e. end_task m t (Failed failure) q)
 after_step m t (Raised failure) q = end_task m t (Failed failure) q
-after_step m t (Awaits e) q = (tt, (q, tt))
+after_step m t (Awaits e) q = λ w. (tt, λ x k. (tt, (q, tt)))
 
-tick_taken : (m left : ℕ) (o : Option (ℕ × Option Body)) → Or (1 ≤ one_if_some o)
-    (Within m (Finds o page.tick_ended (λ now. Over (page.perform_next now.0 now.1) (frame.Tick left ∷ []))))
-tick_taken m left None = Light (tt, λ now e. absurd cc)
-tick_taken m left (Some now) = Pays (omega arith)
+tick_taken : (m k left : ℕ) (o : Option (ℕ × Option Body)) → Or (1 ≤ one_if_some o)
+    (Within m (Finds o (page.tick_ended k) (λ now. Over (page.perform_next now.0 now.1) (frame.Tick k left ∷ []))))
+tick_taken m k left None = Light (tt, λ now e. absurd cc)
+tick_taken m k left (Some now) = Pays (omega arith)
 
 -- inline bodies
 go_with : (m : ℕ) (i : Inline) (v : Value) (p : Position) → waiting_text p ≤ m → Within m (page.go_with i v p)
@@ -311,7 +310,8 @@ rule_within (frame.Cancel d) p = cancel 0 d
 rule_within (frame.Give given) p = unless_raised 0 p _ tt
 rule_within (frame.Notify d t) p = notify 1 d t (omega arith)
 rule_within (frame.Stepped t) p = λ w. (tt, after_step 2 t p (omega arith))
-rule_within (frame.Tick units) p = (tt, λ o known. tick_taken 0 (units - 1) o)
+rule_within (frame.Halt t) p = halt_task 2 t (omega arith)
+rule_within (frame.Tick k units) p = (tt, λ o known. tick_taken 0 k (units - 1) o)
 rule_within frame.Tell p = (tt, λ failure e. tt)
 rule_within frame.Due p = λ o known. run_next 0 o
 rule_within (frame.Inline x) p = inline_goes x p

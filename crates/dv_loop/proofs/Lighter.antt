@@ -20,7 +20,7 @@ use Rattle.dv_inline.specs.declared.open.Open.{Open}
 use Rattle.dv_inline.specs.declared.request.Request.{Request}
 use Rattle.dv_objects.specs.declared.reached.Reached.TheVariants as reached
 use Rattle.dv_objects.specs.declared.reached.Reached.{Reached}
-use Rattle.dv_objects.specs.declared.task.TaskEnd.TheVariants.{Stopped}
+use Rattle.dv_objects.specs.declared.task.TaskEnd.TheVariants.{Stopped, Halted}
 use Rattle.dv_objects.specs.declared.task.TaskEnd.{TaskEnd}
 use Rattle.dv_loop.proofs.Budget.{reaches}
 use Rattle.dv_prims.specs.declared.gather.Flags.{Flags}
@@ -73,10 +73,13 @@ action_within (Action-F.Loop name deferred interval at_once body) = 1 + body
 action_within (Action-F.StopLoop name) = 0
 action_within (Action-F.Units units) = 0
 action_within (Action-F.Cooperate name bodies) = total bodies
+action_within (Action-F.CooperateIn name of bodies) = 1 + total bodies
+action_within (Action-F.UnitsIn name units) = 0
+action_within (Action-F.StopCooperator name) = 2
 action_within (Action-F.WhenDone name task) = 0
 action_within (Action-F.PauseTask name) = 0
 action_within (Action-F.StopTask name) = 1
-action_within (Action-F.ResumeTask name) = 0
+action_within (Action-F.ResumeTask name) = 1
 action_within (Action-F.Inline name statements) = 2 + total statements
 action_within (Action-F.Thread name delay work) = 0
 action_within (Action-F.ThreadIn name pool delay work) = 0
@@ -181,7 +184,8 @@ rank (frame.Cancel d) = 0
 rank (frame.Give given) = 0
 rank (frame.Notify d t) = 1
 rank (frame.Stepped t) = 2
-rank (frame.Tick units) = 0
+rank (frame.Halt t) = 2
+rank (frame.Tick k units) = 0
 rank frame.Tell = 0
 rank frame.Due = 0
 rank (frame.Inline inlining) = inline_rank inlining
@@ -208,7 +212,7 @@ paid_by (GetFrom k d) a = 0
 paid_by (ChildFired l i v) a = 0
 paid_by (CancelCall number) a = 0
 paid_by (ResetCall number from delay) a = 0
-paid_by TakeStep a = one_if_some a
+paid_by (TakeStep k) a = one_if_some a
 paid_by (EndTask t end) a = 0
 paid_by (ResumeInline i v) a = 0
 paid_by (EndAwait i e p) a = 0
@@ -228,7 +232,7 @@ Known (GetFrom k d) a = Unit {0}
 Known (ChildFired l i v) a = Unit {0}
 Known (CancelCall number) a = Unit {0}
 Known (ResetCall number from delay) a = Unit {0}
-Known TakeStep a = Unit {0}
+Known (TakeStep k) a = Unit {0}
 Known (EndTask t end) a = Unit {0}
 Known (ResumeInline i v) a = Unit {0}
 Known (EndAwait i e p) a = IsSame p a
@@ -313,7 +317,17 @@ notify_all m t [] q = tt
 notify_all m t (d ∷ ds) q = (q, (omega (arith, q), notify_all m t ds q))
 
 pub end_task : (m t : ℕ) (end : TaskEnd) → 1 < m → Within m (page.end_task t end)
-end_task m t end q = λ ds known. Light (tt, notify_all m t ds q)
+end_task m t end q = λ w. (tt, λ x e. λ ds known. Light (tt, notify_all m t ds q))
+
+pub halt_task : (m t : ℕ) → 1 < m → Within m (page.halt_task t)
+halt_task m t q = λ w. (tt, λ x e. (end_task m t Halted q, tt))
+
+joined_in : (m k t : ℕ) → 1 < m → Within m (page.joined_in k t)
+joined_in m k t q = λ w. (tt, λ c e. (halt_task m t q, tt))
+
+halt_all : (m : ℕ) (ts : List ℕ) → 2 < m → Lighter m (page.halt_all ts)
+halt_all m [] q = tt
+halt_all m (t ∷ ts) q = (q, halt_all m ts q)
 
 -- actions
 pub carry_out : (m : ℕ) (itself : Option ℕ) (action : Action-F Action Statement Body) → begun_size action < m
@@ -358,11 +372,17 @@ carry_out m itself (Action-F.Loop name of interval at_once body) q = λ w v. (tu
 carry_out m itself (Action-F.StopLoop name) q = λ w. (tt, λ l e. stop_loop m l (omega (arith, q)))
 carry_out m itself (Action-F.Units units) q = tt
 carry_out m itself (Action-F.Cooperate name bodies) q = tt
+carry_out m itself (Action-F.CooperateIn name of bodies) q =
+    λ w. (tt, λ k e. λ v. joined_in m k _ (omega (arith, q)))
+carry_out m itself (Action-F.UnitsIn name units) q = λ w. (tt, λ k e. tt)
+carry_out m itself (Action-F.StopCooperator name) q =
+    λ w. (tt, λ k e. λ v. (tt, λ c j. (tt, halt_all m c.turns.tasks (omega (arith, q)))))
 carry_out m itself (Action-F.WhenDone name task) q = λ w. (tt, λ t e. λ v. notify m 0 t (omega (arith, q)))
 carry_out m itself (Action-F.PauseTask name) q = λ w. (tt, λ t e. λ v. (tt, λ x k. (tt, λ end j. tt)))
 carry_out m itself (Action-F.StopTask name) q =
     λ w. (tt, λ t e. λ v. (tt, λ x k. (end_task m t Stopped (omega (arith, q)), λ end j. tt)))
-carry_out m itself (Action-F.ResumeTask name) q = λ w. (tt, λ t e. λ v. (tt, λ x k. (tt, tt)))
+carry_out m itself (Action-F.ResumeTask name) q =
+    λ w. (tt, λ t e. λ v. (tt, λ x k. (tt, joined_in m x.of t (omega (arith, q)))))
 carry_out m itself (Action-F.Inline name statements) q = λ u w v. (tt, (omega (arith, q), tt))
 carry_out m itself (Action-F.Thread name delay work) q = λ w v. (tt, λ u. tt)
 carry_out m itself (Action-F.ThreadIn name pool delay work) q = λ w v. (tt, λ u. tt)

@@ -1,8 +1,7 @@
 -- Every step that rules take leads on by steps of the world: a line a step, written once for all laws.
-use Rattle.std.proofs.Common.{ℕ, ◌≡◌, min, Bool, true, false, if◌then◌else◌, Option, None, Some, slice_get, refl}
+use Rattle.std.proofs.Common.{ℕ, ◌≡◌, min, Bool, true, false, if◌then◌else◌, List, Option, None, Some, slice_get, refl}
 use Rattle.dv_clock.specs.Clock.{Upcoming, next_call, new_due}
-use Rattle.dv_clock.specs.Due.{entry_when_due}
-use Rattle.dv_clock.specs.Turns.{turn_of}
+use Rattle.dv_clock.specs.Due.{scheduling, entry_when_due}
 use Rattle.dv_clock.specs.declared.call.Call.{Call}
 use Rattle.dv_clock.specs.declared.call.CallState.{CallState}
 use Rattle.dv_clock.specs.declared.call.CallState.TheVariants as call_state
@@ -13,7 +12,8 @@ use Rattle.dv_clock.specs.declared.limits.TheConstants.{MOST_DELAY}
 use Rattle.dv_journal.specs.Told.{change_of, Aside}
 use Rattle.dv_journal.specs.declared.entry.Entry.{Entry}
 use Rattle.dv_journal.specs.declared.entry.Entry.TheVariants as entry
-use Rattle.dv_objects.specs.Cooperator.{Cooperator, result_of, unended, wants_tick, idle_tick}
+use Rattle.dv_objects.specs.Cooperator.{Cooperator, Cooperators, result_of, unended, tick_of, turn_in, wants_tick}
+use Rattle.dv_objects.specs.Cooperator.{idle_tick}
 use Rattle.dv_objects.specs.Inlines.{resume_at, end_adding}
 use Rattle.dv_objects.specs.Objects.{Objects, with_queue, with_list, inlining}
 use Rattle.dv_objects.specs.declared.looping_call.LoopingCall.{LoopingCall}
@@ -28,6 +28,7 @@ use Rattle.dv_definition.specs.Steps.{Step, stepped, Question, asked, Make, Name
 use Rattle.dv_definition.specs.Steps.{TellTurn, TellUnhandled, NewLock, NewSemaphore, Ask, Release, Forget, NewQueue}
 use Rattle.dv_definition.specs.Steps.{Withdraw, NewList, StartTimer, EndTimer, CallLater, NewLoop, ScheduleTurn}
 use Rattle.dv_definition.specs.Steps.{StopLoop, EndLoop, NewTask, AwaitTask, PauseTask, ResumeTask, HoldTask, KeepTick}
+use Rattle.dv_definition.specs.Steps.{NewTaskIn, SetUnitsIn, Halt}
 use Rattle.dv_definition.specs.Steps.{SetUnits, BeginBody, BeginTick, EndTick, AddInline, BeginAwait, Submit}
 use Rattle.dv_definition.specs.Steps.{DeliverLater, Advance, TellMet, TellUnmet, TellUnbound, StopRun, TellDrain}
 use Rattle.dv_definition.specs.Steps.{TellPost, Put, PutDeferred, TakeDue, Moves, Cancel, PutInto, GetFrom, ChildFired}
@@ -38,7 +39,7 @@ use Rattle.dv_world.specs.World.{arrange, child_fired_found, child_fired_in, tak
 use Rattle.dv_world.specs.World.{state_cancelled}
 use Rattle.dv_world.specs.World.{call_cancelled, cancel_call, waiting_reset, state_reset, call_reset, reset_call}
 use Rattle.dv_world.specs.World.{turn_scheduled, loop_stopped, task_told, task_ended}
-use Rattle.dv_world.specs.World.{tick_dropped, keep_tick, step_taken, turn_taken, resume_inline, end_await}
+use Rattle.dv_world.specs.World.{cooperator_of, tick_dropped, tick_kept, keep_tick, step_taken, turn_taken, resume_inline, end_await}
 
 pub same : (w : World) → Comes w w
 same w = record { keeps = λ R l. l.stays w }
@@ -85,19 +86,28 @@ loop_stopped_comes : (l : ℕ) (o : Option LoopingCall) (w : World) → Comes w 
 loop_stopped_comes l None w = same w
 loop_stopped_comes l (Some x) w = by_aside (entry.Stop x.name) _ w refl
 
-told_task_comes : (e : Task → Entry) (change : Task → Cooperator → Cooperator) (o : Option Task) (w : World)
+told_task_comes : (e : Task → Entry) (change : Task → Cooperators → Cooperators) (o : Option Task) (w : World)
     → ((x : Task) → change_of (e x) ≡ Aside) → Comes w (task_told e change o w)
 told_task_comes e change None w a = same w
 told_task_comes e change (Some x) w a = by_aside (e x) _ w (a x)
 
-dropped_comes : (o : Option ℕ) (w : World) → Comes w (tick_dropped o w)
-dropped_comes None w = same w
-dropped_comes (Some number) w = record { keeps = λ R l. l.by_arrange _ w }
+dropped_comes : (k : ℕ) (o : Option ℕ) (w : World) → Comes w (tick_dropped k o w)
+dropped_comes k None w = same w
+dropped_comes k (Some number) w = record { keeps = λ R l. l.by_arrange _ w }
 
-keep_comes : (w u : World) → Comes w u → Comes w (keep_tick u)
-keep_comes w u c =
-    join w u _ c (one_comes (wants_tick u.objects.cooperator) u _ _ (by_aside (entry.LaterTick _) _ u refl)
-    (dropped_comes (idle_tick u.objects.cooperator) u))
+-- a tick that is scheduled is no change of a Deferred
+tick_aside : (name : Option (List ℕ)) (k due : ℕ) → change_of (scheduling (tick_of name k) due) ≡ Aside
+tick_aside None k due = refl
+tick_aside (Some name) k due = refl
+
+kept_comes : (k : ℕ) (o : Option Cooperator) (w : World) → Comes w (tick_kept k o w)
+kept_comes k None w = same w
+kept_comes k (Some c) w =
+    one_comes (wants_tick c) w _ _ (by_aside (scheduling (tick_of c.name k) _) _ w (tick_aside c.name k _))
+    (dropped_comes k (idle_tick c) w)
+
+keep_comes : (k : ℕ) (w u : World) → Comes w u → Comes w (keep_tick k u)
+keep_comes k w u c = join w u _ c (kept_comes k (cooperator_of k u) u)
 
 task_ended_comes : (t : ℕ) (end : TaskEnd) (o : Option Task) (w : World) → Comes w (task_ended t end o w).1
 task_ended_comes t end None w = same w
@@ -117,6 +127,7 @@ waiting_comes : (number : ℕ) (due : Due) (w : World) → Comes w (waiting_canc
 waiting_comes number (what.Call name key) w = by_aside (entry.Uncall name) _ w refl
 waiting_comes number (what.Turn name key) w = same w
 waiting_comes number what.Tick w = same w
+waiting_comes number (what.TickIn name key) w = same w
 waiting_comes number (what.Delivery job key) w = same w
 waiting_comes number (what.Timeout d) w = same w
 
@@ -142,6 +153,7 @@ waiting_anew number from delay due (what.Call name key) w =
     by_aside (entry.Reset name (new_due from (min delay MOST_DELAY) due w.objects.clock.time)) _ w refl
 waiting_anew number from delay due (what.Turn name key) w = same w
 waiting_anew number from delay due what.Tick w = same w
+waiting_anew number from delay due (what.TickIn name key) w = same w
 waiting_anew number from delay due (what.Delivery job key) w = same w
 waiting_anew number from delay due (what.Timeout d) w = same w
 
@@ -179,6 +191,7 @@ pub due_aside : (due : Due) → change_of (entry_when_due due) ≡ Aside
 due_aside (what.Call name key) = refl
 due_aside (what.Turn name key) = refl
 due_aside what.Tick = refl
+due_aside (what.TickIn name key) = refl
 due_aside (what.Delivery job key) = refl
 due_aside (what.Timeout d) = refl
 
@@ -188,7 +201,7 @@ step_taken_comes t (Some x) w = by_aside (entry.Step x.name) _ w refl
 
 turn_taken_comes : (o : Option ℕ) (w : World) → Comes w (turn_taken o w).1
 turn_taken_comes None w = same w
-turn_taken_comes (Some t) w = step_taken_comes t (slice_get w.objects.cooperator.tasks t) w
+turn_taken_comes (Some t) w = step_taken_comes t (slice_get w.objects.cooperators.tasks t) w
 
 due_comes : (o : Option Upcoming) (w : World) → Comes w (take_due_found o w).1
 due_comes None w = same w
@@ -219,14 +232,17 @@ step_comes (ScheduleTurn l) w = scheduled_comes l (slice_get w.objects.loops l) 
 step_comes (StopLoop l) w = loop_stopped_comes l (slice_get w.objects.loops l) w
 step_comes (EndLoop l) w = record { keeps = λ R k. k.by_arrange _ w }
 step_comes (NewTask name bodies) w = by_aside (entry.Task name) _ w refl
-step_comes (AwaitTask t d) w = told_task_comes _ _ (slice_get w.objects.cooperator.tasks t) w (λ x. refl)
-step_comes (PauseTask t) w = told_task_comes _ _ (slice_get w.objects.cooperator.tasks t) w (λ x. refl)
-step_comes (ResumeTask t) w = told_task_comes _ _ (slice_get w.objects.cooperator.tasks t) w (λ x. refl)
-step_comes (HoldTask t e) w = told_task_comes _ _ (slice_get w.objects.cooperator.tasks t) w (λ x. refl)
+step_comes (NewTaskIn k name of bodies) w = by_aside (entry.TaskIn name of) _ w refl
+step_comes (AwaitTask t d) w = told_task_comes _ _ (slice_get w.objects.cooperators.tasks t) w (λ x. refl)
+step_comes (PauseTask t) w = told_task_comes _ _ (slice_get w.objects.cooperators.tasks t) w (λ x. refl)
+step_comes (ResumeTask t) w = told_task_comes _ _ (slice_get w.objects.cooperators.tasks t) w (λ x. refl)
+step_comes (HoldTask t e) w = told_task_comes _ _ (slice_get w.objects.cooperators.tasks t) w (λ x. refl)
 step_comes (SetUnits units) w = by_aside (entry.Units units) _ w refl
-step_comes KeepTick w = keep_comes w w (same w)
-step_comes BeginTick w = record { keeps = λ R l. l.by_arrange _ w }
-step_comes EndTick w = record { keeps = λ R l. l.by_arrange _ w }
+step_comes (SetUnitsIn k name units) w = by_aside (entry.UnitsIn name units) _ w refl
+step_comes (Halt k name) w = by_aside (entry.StopCooperator name) _ w refl
+step_comes (KeepTick k) w = keep_comes k w w (same w)
+step_comes (BeginTick k) w = record { keeps = λ R l. l.by_arrange _ w }
+step_comes (EndTick k) w = record { keeps = λ R l. l.by_arrange _ w }
 step_comes AddInline w = record { keeps = λ R l. l.by_arrange _ w }
 step_comes (BeginAwait i e) w = by_aside (entry.Await i.of e) _ w refl
 step_comes (Submit d pool work) w = record { keeps = λ R l. l.by_submit d pool work w }
@@ -249,8 +265,8 @@ question_comes (GetFrom k d) w = get_comes k d (slice_get w.objects.queues k) w
 question_comes (ChildFired l i v) w = child_fired_in_comes l i v w
 question_comes (CancelCall number) w = off_comes number w
 question_comes (ResetCall number from delay) w = anew_comes number from delay w
-question_comes TakeStep w = turn_taken_comes (turn_of w.objects.cooperator.turns) w
-question_comes (EndTask t end) w = task_ended_comes t end (unended (slice_get w.objects.cooperator.tasks t)) w
+question_comes (TakeStep k) w = turn_taken_comes (turn_in (cooperator_of k w)) w
+question_comes (EndTask t end) w = task_ended_comes t end (unended (slice_get w.objects.cooperators.tasks t)) w
 question_comes (ResumeInline i v) w = inlining_comes i v w
 question_comes (EndAwait i e p) w = end_await_comes i e p w
 question_comes TakeDue w = due_comes (next_call w.objects.clock) w

@@ -15,7 +15,10 @@ use dv_objects::given::Given;
 use dv_objects::pair::Pair;
 use dv_script::action::Action;
 use dv_script::lent::{BodiesRef, BodyRef, Statements, TextRef, WorkRef};
-use dv_task::cooperating::{cooperate, pause_task, resume_task, stop_task, when_done};
+use dv_task::cooperating::{
+    cooperate, cooperate_in, pause_task, resume_task, set_units_in, stop_cooperator, stop_task,
+    when_done,
+};
 use dv_task::looping::{start_loop, stop_loop};
 use dv_task::timing::{add_timeout, cancel_call, reset_call};
 use dv_threads::inlining::begin_inline;
@@ -91,6 +94,12 @@ pub fn act<'s>(
         Action::Cooperate(name, bodies) => {
             cooperate(turn, TextRef::new(name), BodiesRef::new(bodies.as_slice()))
         }
+        Action::CooperateIn(name, of, bodies) => {
+            let bodies = BodiesRef::new(bodies.as_slice());
+            cooperate_in(turn, TextRef::new(name), of.as_str(), bodies)
+        }
+        Action::UnitsIn(name, units) => set_units_in(turn, name.as_str(), *units),
+        Action::StopCooperator(name) => stop_cooperator(turn, name.as_str()),
         Action::WhenDone(name, task) => when_done(turn, TextRef::new(name), task.as_str()),
         Action::PauseTask(name) => pause_task(turn, name.as_str()),
         Action::StopTask(name) => stop_task(turn, name.as_str()),

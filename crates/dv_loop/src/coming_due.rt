@@ -6,6 +6,7 @@ ghost use Rattle.dv_objects.specs.declared.performed.Performed.TheVariants.{Done
 ghost use Rattle.dv_loop.specs.TurnEnds.{ending};
 
 use crate::turn_end::{TurnEnd, turn_ended};
+use dv_clock::cooperator_id::CooperatorId;
 use dv_clock::due::Due;
 use dv_clock::loop_id::LoopId;
 use dv_frames::following::whole;
@@ -13,6 +14,7 @@ use dv_frames::frame::Frame;
 use dv_frames::turn::Turn;
 use dv_journal::deferred_id::DeferredId;
 use dv_objects::input::Input;
+use dv_task::cooperating::begin_tick;
 use dv_task::looping::take_turn;
 use std::alloc::AllocError;
 
@@ -47,7 +49,12 @@ fn run_what(turn: &mut Turn<'_>, what: Due) -> Result<TurnEnd, AllocError>
         }
         Due::Tick => {
             turn.stack.push(Frame::Due)?;
-            turn_ended(turn.stack.push(Frame::Tick(turn.world.begin_tick())))
+            turn_ended(begin_tick(turn, CooperatorId::new(0)))
+        }
+        Due::TickIn(name, key) => {
+            drop(name);
+            turn.stack.push(Frame::Due)?;
+            turn_ended(begin_tick(turn, CooperatorId::new(key)))
         }
         Due::Delivery(job, key) => {
             turn.stack.push(Frame::Due)?;

@@ -28,7 +28,7 @@ use dv_objects::performed::Performed;
 use dv_script::body::End;
 use dv_script::lent::BodyRef;
 use dv_script::script::NamedBody;
-use dv_task::cooperating::{end_step, go_on_ticking, notify};
+use dv_task::cooperating::{end_step, go_on_ticking, halt_task, notify};
 use dv_threads::maybe::{end_maybe, give_after};
 use dv_world::ending::ended;
 use dv_world::world::World;
@@ -71,9 +71,13 @@ pub fn perform_frame<'s>(
             turn_ended(notify(turn, id, task))
         }
         Frame::Stepped(task) => turn_ended(go_on_stepping(turn, task)),
-        Frame::Tick(units) => {
+        Frame::Halt(task) => {
             clear(&mut turn.performed);
-            turn_ended(go_on_ticking(turn, units))
+            turn_ended(halt_task(turn, task))
+        }
+        Frame::Tick(of, units) => {
+            clear(&mut turn.performed);
+            turn_ended(go_on_ticking(turn, of, units))
         }
         Frame::Tell => turn_ended(tell(turn)),
         Frame::Due => {

@@ -1,24 +1,26 @@
 -- What stands beside the Deferreds: names, locks and semaphores, queues, what DeferredLists have of their children, the
--- clock with its delayed calls, loops, the Cooperator, and what inline bodies wait for.
+-- clock with its delayed calls, loops, the Cooperators, and what inline bodies wait for.
 use Rattle.std.specs.Prelude.{ℕ, List, [], ◌∷◌, ◌++◌, length, Option, None, Some, slice_set}
 use Rattle.dv_clock.specs.Clock.{Clock, new_clock, with_call, ended, moved}
 use Rattle.dv_clock.specs.declared.call.CallState.{CallState}
 use Rattle.dv_clock.specs.declared.call.CallState.TheVariants.{Dropped}
-use Rattle.dv_clock.specs.declared.due.Due.TheVariants.{Call, Tick, Delivery, Timeout}
+use Rattle.dv_clock.specs.declared.due.Due.{Due}
+use Rattle.dv_clock.specs.declared.due.Due.TheVariants.{Call, Delivery, Timeout}
 use Rattle.dv_prims.specs.DeferredList.{Gather, new_gather}
 use Rattle.dv_prims.specs.Queue.{Queue, new_queue}
 use Rattle.dv_prims.specs.Tokens.{Semaphore, new_semaphore}
 use Rattle.dv_prims.specs.declared.gather.Flags.{Flags}
 use Rattle.dv_script.specs.declared.body.Body.{Body}
 use Rattle.dv_script.specs.declared.script.Cooperator.{Cooperator as Settings}
-use Rattle.dv_objects.specs.Cooperator.{Cooperator, new_cooperator}
+use Rattle.dv_script.specs.declared.script.NamedCooperator.{NamedCooperator}
+use Rattle.dv_objects.specs.Cooperator.{Cooperators, new_cooperators, changed}
 use Rattle.dv_objects.specs.Inlines.{Inlines}
 use Rattle.dv_objects.specs.Names.{Names, with_name}
 use Rattle.dv_objects.specs.declared.waiting.Waiting.TheVariants.{Nothing}
 use Rattle.dv_objects.specs.declared.looping_call.LoopingCall.{LoopingCall}
 
 -- what stands beside the Deferreds: their names, locks and semaphores with theirs, queues with theirs, and the lists;
--- the clock, delayed calls with their names, and their bodies; loops with theirs, the Cooperator with its tasks, and
+-- the clock, delayed calls with their names, and their bodies; loops with theirs, the Cooperators with their tasks, and
 -- what inline bodies wait for
 pub record Objects : Type 0 where
   pub names : Names ℕ
@@ -32,12 +34,12 @@ pub record Objects : Type 0 where
   pub bodies : List Body
   pub loop_names : Names ℕ
   pub loops : List LoopingCall
-  pub cooperator : Cooperator
+  pub cooperators : Cooperators
   pub inlines : Inlines
 
--- nothing stands there at first but a Cooperator without tasks
-abbrev pub no_objects : Settings → Objects
-no_objects settings = record {
+-- nothing stands there at first but Cooperators without tasks
+abbrev pub no_objects : Settings → List NamedCooperator → Objects
+no_objects settings named = record {
   names = [];
   locks = [];
   semaphores = [];
@@ -49,7 +51,7 @@ no_objects settings = record {
   bodies = [];
   loop_names = [];
   loops = [];
-  cooperator = new_cooperator settings.units settings.delay;
+  cooperators = new_cooperators settings named;
   inlines = [];
 }
 
@@ -139,22 +141,22 @@ with_moved_call number due objects = record objects { clock = moved number due o
 abbrev pub with_time : ℕ → Objects → Objects
 with_time time objects = record objects { clock = record objects.clock { time = time } }
 
--- the Cooperator changes
-abbrev pub cooperating : (Cooperator → Cooperator) → Objects → Objects
-cooperating change objects = record objects { cooperator = change objects.cooperator }
+-- the Cooperators change
+abbrev pub cooperating : (Cooperators → Cooperators) → Objects → Objects
+cooperating change objects = record objects { cooperators = change objects.cooperators }
 
--- a tick is scheduled, which is due at this time
-abbrev pub with_tick : ℕ → Objects → Objects
-with_tick due objects = record objects {
-  clock = with_call due Tick objects.clock;
-  cooperator = record objects.cooperator { tick = Some (length objects.clock.calls) };
+-- a tick of a Cooperator is scheduled, which is due at this time
+abbrev pub with_tick : ℕ → Due → ℕ → Objects → Objects
+with_tick k what due objects = record objects {
+  clock = with_call due what objects.clock;
+  cooperators = changed k (λ one. record one { tick = Some (length objects.clock.calls) }) objects.cooperators;
 }
 
--- the tick that is scheduled is dropped
-abbrev pub without_tick : ℕ → Objects → Objects
-without_tick number objects = record objects {
+-- the tick of a Cooperator that is scheduled is dropped
+abbrev pub without_tick : ℕ → ℕ → Objects → Objects
+without_tick k number objects = record objects {
   clock = ended number Dropped objects.clock;
-  cooperator = record objects.cooperator { tick = None };
+  cooperators = changed k (λ one. record one { tick = None }) objects.cooperators;
 }
 
 -- what inline bodies wait for changes

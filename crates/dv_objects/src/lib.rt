@@ -4,6 +4,7 @@
 
 pub mod canceller;
 pub mod cooperator;
+pub mod cooperators;
 pub mod follow;
 pub mod given;
 pub mod inline_id;

@@ -1,6 +1,7 @@
 ghost use Rattle.std.specs.Prelude.{◌≡◌, [], IfOk};
 ghost use Rattle.dv_objects.specs.Cooperator.{result_of, how_ended};
 
+use dv_clock::cooperator_id::CooperatorId;
 use dv_journal::deferred_id::DeferredId;
 use dv_script::lent::{BodiesRef, TextRef};
 use dv_value::boxed::Boxed;
@@ -19,15 +20,19 @@ pub enum TaskEnd {
     Finished,
     /// It was stopped.
     Stopped,
+    /// Its Cooperator was stopped.
+    Halted,
     /// A body of it, or a Deferred that it waited for, resulted in this failure.
     Failed(Boxed<Failure>),
 }
 
-/// A task of the Cooperator (Twisted: `CooperativeTask`).
+/// A task of a Cooperator (Twisted: `CooperativeTask`).
 #[derive(Drop)]
 pub struct Task<'s> {
     /// Its name at its making.
     pub name: TextRef<'s>,
+    /// The Cooperator that it is in.
+    pub of: CooperatorId,
     /// The bodies that are left to be performed, one a step.
     pub bodies: BodiesRef<'s>,
     /// How often it was paused and hasn't been resumed since.
@@ -46,19 +51,22 @@ impl TaskEnd {
         match self {
             TaskEnd::Finished => Ok(Value::Text(Text::of(alloc, name)?)),
             TaskEnd::Stopped => fault(alloc, ClassId::TASK_STOPPED, ""),
+            TaskEnd::Halted => fault(alloc, ClassId::SCHEDULER_STOPPED, ""),
             TaskEnd::Failed(failure) => {
                 Ok(Value::Fault(Boxed::new(alloc, failure.get().copy(alloc)?)?))
             }
         }
     }
 
-    /// What is raised where a task has ended (Twisted: `TaskDone`, `TaskStopped`, `TaskFailed`).
+    /// What is raised where a task has ended (Twisted: `TaskDone`, `TaskStopped`, `TaskFailed`,
+    /// `SchedulerStopped`).
     pub fn raised(&self, alloc: Global) -> Result<Boxed<Failure>, AllocError>
         ensures { IfOk result (λ failure. failure ≡ how_ended self.now) }
     {
         match self {
             TaskEnd::Finished => failure(alloc, ClassId::TASK_DONE, ""),
             TaskEnd::Stopped => failure(alloc, ClassId::TASK_STOPPED, ""),
+            TaskEnd::Halted => failure(alloc, ClassId::SCHEDULER_STOPPED, ""),
             TaskEnd::Failed(_) => failure(alloc, ClassId::TASK_FAILED, ""),
         }
     }

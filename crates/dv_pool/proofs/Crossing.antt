@@ -25,6 +25,7 @@ use Rattle.dv_pool.proofs.answer_queue.Fair.TheSendSync as queue_rule
 use Rattle.dv_pool.proofs.job_deque.Fair.TheSendSync as deque_rule
 use Rattle.dv_value.proofs.boxed.Boxed.TheSendSync as boxed
 use Rattle.dv_value.proofs.items.Items.TheSendSync as items
+use Rattle.dv_value.proofs.shared.Shared.TheSendSync as shared_value
 use Rattle.dv_value.proofs.text.Text.TheSendSync as text
 use Rattle.dv_value.proofs.class_id.ClassId.TheSendSync as class_id
 use Rattle.dv_value.proofs.failure.Failure.TheLaws.TheKnot as failures
@@ -42,11 +43,17 @@ ruleset values_cross = (
   sendable,
   crosses,
   boxed.the_send,
+  boxed.the_sync,
   items.the_send,
+  items.the_sync,
+  shared_value.the_send,
+  shared_value.the_sync,
   text.the_send,
+  text.the_sync,
   class_id.the_send,
+  class_id.the_sync,
   failures.crosses,
-  values.crosses,
+  values.crosses_both,
 )
 
 Job-send : IsSend job.the_row

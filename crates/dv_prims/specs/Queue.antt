@@ -5,7 +5,6 @@ use Rattle.dv_value.specs.declared.value.Value.{Value}
 use Rattle.dv_journal.specs.Journal.{Written, fits, with_entry}
 use Rattle.dv_journal.specs.declared.entry.Entry.TheVariants as entry
 use Rattle.dv_journal.specs.declared.error.Stop.{Stop}
-use Rattle.dv_journal.specs.declared.error.Stop.TheVariants as stop
 use Rattle.dv_journal.specs.Telling.{State, Told, telling, making}
 use Rattle.dv_prims.specs.Tokens.{without}
 use Rattle.dv_prims.specs.declared.error.Overflow.{Overflow}

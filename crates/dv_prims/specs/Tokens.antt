@@ -6,7 +6,6 @@ use Rattle.std.specs.Set.{remove_key}
 use Rattle.dv_journal.specs.Journal.{Written, fits, with_entry}
 use Rattle.dv_journal.specs.declared.entry.Entry.TheVariants as entry
 use Rattle.dv_journal.specs.declared.error.Stop.{Stop}
-use Rattle.dv_journal.specs.declared.error.Stop.TheVariants as stop
 use Rattle.dv_journal.specs.Telling.{State, Told, telling, making}
 use Rattle.dv_prims.specs.declared.error.NotHeld.{NotHeld}
 use Rattle.dv_journal.specs.declared.error.Fault.{Fault}

@@ -8,7 +8,6 @@ use dv_value::text::Text;
 use dv_value::value::Value;
 use std::alloc::{AllocError, Global};
 use std::marker::Model;
-use std::mem;
 
 /// How a DeferredList is fired, and what failures of its children become.
 #[derive(Clone, Copy, Debug, PartialEq, Eq)]
@@ -139,13 +138,21 @@ impl Gather {
         ensures err { OnErr result (self.new ≡ self.old) }
     {
         let kept = kept_of(self.alloc, value)?;
-        self.missing = put_in_place(&mut self.places, self.missing, index as usize, kept);
-        if self.missing > 0 {
+        let place = index as usize;
+        let left = left_after(self.places.as_slice(), self.missing, place, &kept);
+        if left > 0 {
+            put_in_place(&mut self.places, place, kept);
+            self.missing = left;
             return Ok(None);
         }
-        let all = mem::replace(&mut self.places, Items::new(self.alloc));
-        self.fired = true;
-        Ok(Some(Value::List(all)))
+        let Ok(mut all) = copy_all(self.alloc, self.places.as_slice()) else {
+            drop(kept);
+            return Err(AllocError);
+        };
+        put_in_place(&mut all, place, kept);
+        let all = Value::list(self.alloc, all)?;
+        self.fired();
+        Ok(Some(all))
     }
 }
 
@@ -154,22 +161,40 @@ ghost use Rattle.dv_value.specs.declared.value.Value.TheVariants.{Null, List};
 ghost use Rattle.dv_prims.specs.DeferredList.{is_missing, missing_of, count_missing, kept_of};
 ghost use Rattle.dv_prims.specs.DeferredList.{first_success, first_failure};
 
-/// Puts what is kept of a child into its place, and returns how many haven't fired yet.
+/// How many haven't fired yet, once what is kept of a child is in its place.
 #[tactic(auto, using(crate::proofs::GatherLemmas::set_nowhere))]
-fn put_in_place(places: &mut Items<Value>, missing: usize, place: usize, kept: Value) -> usize
-    requires counted { missing ≡ count_missing places.old }
-    requires kept { is_missing kept ≡ false }
-    ensures put { places.new ≡ slice_set places.old place kept }
-    ensures counted { result ≡ count_missing places.new }
+fn left_after(places: &[Value], missing: usize, place: usize, kept: &Value) -> usize
+    requires counted { missing ≡ count_missing places.now }
+    requires kept { is_missing kept.now ≡ false }
+    ensures { result ≡ count_missing (slice_set places.now place kept.now) }
+{
+    match places.get(place) {
+        None => missing,
+        Some(before) => missing - missing_of(before),
+    }
+}
+
+/// Puts what is kept of a child into its place.
+#[tactic(auto, using(crate::proofs::GatherLemmas::set_nowhere))]
+fn put_in_place(places: &mut Items<Value>, place: usize, kept: Value)
+    ensures { places.new ≡ slice_set places.old place kept }
 {
     if place >= places.as_slice().len() {
         drop(kept);
-        return missing;
+        return;
     }
-    let before = places.replace(place, kept);
-    let left = missing - missing_of(&before);
-    drop(before);
-    left
+    drop(places.replace(place, kept));
+}
+
+/// Copies of these.
+fn copy_all(alloc: Global, values: &[Value]) -> Result<Items<Value>, AllocError>
+    ensures { IfOk result (λ copies. copies ≡ values.now) }
+{
+    let mut copies = Items::with_capacity(alloc, values.len())?;
+    for value in values {
+        copies.push(value.copy(alloc)?)?;
+    }
+    Ok(copies)
 }
 
 /// One for a place whose child hasn't fired.
@@ -205,7 +230,7 @@ fn pair(alloc: Global, first: Value, second: Value) -> Result<Value, AllocError>
         return Err(AllocError);
     }
     items.push(second)?;
-    Ok(Value::List(items))
+    Value::list(alloc, items)
 }
 
 /// Whether a child succeeded, and with what.
@@ -238,6 +263,7 @@ fn first_failure(alloc: Global, index: u32, failure: &Failure) -> Result<Value, 
 }
 
 ghost use Rattle.std.specs.Option.{option_copied};
+ghost use Rattle.std.specs.Prelude.{option_map};
 ghost use Rattle.dv_prims.specs.DeferredList.{second_of, seconds_in, seconds_of};
 
 /// What the children of a DeferredList gave, without whether they succeeded: the second parts of a
@@ -247,14 +273,14 @@ pub fn seconds(alloc: Global, value: &Value) -> Result<Option<Value>, AllocError
     ensures { IfOk result (λ seconds. seconds ≡ seconds_of value.now) }
 {
     match value {
-        Value::List(places) => Ok(seconds_in(alloc, places.as_slice())?.map(Value::List)),
+        Value::List(places) => seconds_in(alloc, places.get().as_slice()),
         Value::Null | Value::Bool(_) | Value::Int(_) | Value::Text(_) | Value::Fault(_) => Ok(None),
     }
 }
 
-/// The second part of each.
-fn seconds_in(alloc: Global, places: &[Value]) -> Result<Option<Items<Value>>, AllocError>
-    ensures { IfOk result (λ seconds. seconds ≡ seconds_in places.now) }
+/// A list of the second part of each.
+fn seconds_in(alloc: Global, places: &[Value]) -> Result<Option<Value>, AllocError>
+    ensures { IfOk result (λ seconds. seconds ≡ option_map List (seconds_in places.now)) }
 {
     let mut seconds = Items::new(alloc);
     for place in places {
@@ -263,7 +289,7 @@ fn seconds_in(alloc: Global, places: &[Value]) -> Result<Option<Items<Value>>, A
         };
         seconds.push(second.copy(alloc)?)?;
     }
-    Ok(Some(seconds))
+    Ok(Some(Value::list(alloc, seconds)?))
 }
 
 /// The second part of a list of two.
@@ -271,7 +297,7 @@ fn second_of(place: &Value) -> Option<&Value>
     ensures { option_copied result ≡ second_of place.now }
 {
     match place {
-        Value::List(parts) if parts.as_slice().len() == 2 => parts.as_slice().get(1),
+        Value::List(parts) if parts.get().as_slice().len() == 2 => parts.get().as_slice().get(1),
         Value::List(_)
         | Value::Null
         | Value::Bool(_)

@@ -5,6 +5,7 @@ use Rattle.serde_json.specs.Data.{Data, Items, no_items, item}
 use Rattle.serde_json.specs.Find.{as_str, as_array, get}
 use Rattle.dv_value.specs.declared.classes.Class.{Class}
 use Rattle.dv_script.specs.declared.script.NamedBody.{NamedBody}
+use Rattle.dv_script.specs.declared.script.NamedCooperator.{NamedCooperator}
 use Rattle.dv_script.specs.declared.script.NamedPool.{NamedPool}
 use Rattle.dv_forms.specs.declared.want.Want.{Want}
 use Rattle.dv_forms.specs.declared.want.Want.TheVariants as want
@@ -17,7 +18,7 @@ use Rattle.dv_forms.specs.declared.want.Object.TheVariants as object
 use Rattle.dv_forms.specs.Wants.{item_want, key_want, keys_in, member_want, pair_wants}
 use Rattle.dv_forms.specs.Words.{wants_of}
 use Rattle.dv_questions.specs.Questions.{Asked, words, names, classes, pools, bodies, every, stands, is_named}
-use Rattle.dv_questions.specs.Questions.{is_known, is_pooled, is_declared}
+use Rattle.dv_questions.specs.Questions.{is_known, is_pooled, is_declared, is_scheduled, cooperators}
 use Rattle.dv_questions.specs.Asking.{count, if_there, each_item, each_member, one_for_one, arguments_suit, word_suits}
 use Rattle.dv_questions.specs.Asking.{call_suits}
 use Rattle.dv_questions.specs.Asking.{keys_suit, name_suits, in_parts, all_suit}
@@ -113,58 +114,40 @@ unfolding all_suit
 weaker a b weak zero w d h = refl
 weaker a b weak (suc n) w d h = parts_too a b (all_suit a n) (all_suit b n) weak (weaker a b weak n) w d h
 
--- ---- each of the five is weaker than all
+-- ---- each of the six is weaker than all
 
--- what answers all five well at the place of a leaf answers each
-five_parts : (v : ℕ) (table : List Class) (declared : List NamedPool) (named : List NamedBody) (l : Leaf) (x : List ℕ)
-    → (every v table declared named).of_leaf l x ≡ true
-    → (stands v l ≡ true) × (is_named v l x ≡ true) × (is_known table l x ≡ true) × (is_pooled declared l x ≡ true)
-    × (is_declared named l x ≡ true)
-five_parts v table declared named l x h =
-    let four =
-    and_parts (stands v l && is_named v l x && is_known table l x && is_pooled declared l x)
-    (is_declared named l x) h in
-    let three = and_parts (stands v l && is_named v l x && is_known table l x) (is_pooled declared l x) four.0 in
-    let two = and_parts (stands v l && is_named v l x) (is_known table l x) three.0 in
-    let one = and_parts (stands v l) (is_named v l x) two.0 in
-    (one.0, one.1, two.1, three.1, four.1)
+module _ (v : ℕ) (table : List Class) (declared : List NamedPool) (named : List NamedBody)
+    (scheduled : List NamedCooperator) where
+  -- what answers all six well at the place of a leaf answers each
+  six_parts : (l : Leaf) (x : List ℕ) → (every v table declared named scheduled).of_leaf l x ≡ true
+      → (stands v l ≡ true) × (is_named v l x ≡ true) × (is_known table l x ≡ true) × (is_pooled declared l x ≡ true)
+      × (is_declared named l x ≡ true) × (is_scheduled scheduled l x ≡ true)
+  six_parts l x h =
+      let five =
+      and_parts (stands v l && is_named v l x && is_known table l x && is_pooled declared l x && is_declared named l x)
+      (is_scheduled scheduled l x) h in
+      let four =
+      and_parts (stands v l && is_named v l x && is_known table l x && is_pooled declared l x)
+      (is_declared named l x) five.0 in
+      let three = and_parts (stands v l && is_named v l x && is_known table l x) (is_pooled declared l x) four.0 in
+      let two = and_parts (stands v l && is_named v l x) (is_known table l x) three.0 in
+      let one = and_parts (stands v l) (is_named v l x) two.0 in
+      (one.0, one.1, two.1, three.1, four.1, five.1)
 
-pub words_too : (v : ℕ) (table : List Class) (declared : List NamedPool) (named : List NamedBody)
-    → IsWeaker (every v table declared named) (words v)
-words_too v table declared named = record {
-  leaf = λ l x h. (five_parts v table declared named l x h).0;
-  word = λ c x h. h;
-  object = λ k h. h;
-}
+  pub words_too : IsWeaker (every v table declared named scheduled) (words v)
+  words_too = record { leaf = λ l x h. (six_parts l x h).0; word = λ c x h. h; object = λ k h. h }
 
-pub names_too : (v : ℕ) (table : List Class) (declared : List NamedPool) (named : List NamedBody)
-    → IsWeaker (every v table declared named) (names v)
-names_too v table declared named = record {
-  leaf = λ l x h. (five_parts v table declared named l x h).1;
-  word = λ c x h. refl;
-  object = λ k h. refl;
-}
+  pub names_too : IsWeaker (every v table declared named scheduled) (names v)
+  names_too = record { leaf = λ l x h. (six_parts l x h).1; word = λ c x h. refl; object = λ k h. refl }
 
-pub classes_too : (v : ℕ) (table : List Class) (declared : List NamedPool) (named : List NamedBody)
-    → IsWeaker (every v table declared named) (classes table)
-classes_too v table declared named = record {
-  leaf = λ l x h. (five_parts v table declared named l x h).2;
-  word = λ c x h. refl;
-  object = λ k h. refl;
-}
+  pub classes_too : IsWeaker (every v table declared named scheduled) (classes table)
+  classes_too = record { leaf = λ l x h. (six_parts l x h).2; word = λ c x h. refl; object = λ k h. refl }
 
-pub pools_too : (v : ℕ) (table : List Class) (declared : List NamedPool) (named : List NamedBody)
-    → IsWeaker (every v table declared named) (pools declared)
-pools_too v table declared named = record {
-  leaf = λ l x h. (five_parts v table declared named l x h).3;
-  word = λ c x h. refl;
-  object = λ k h. refl;
-}
+  pub pools_too : IsWeaker (every v table declared named scheduled) (pools declared)
+  pools_too = record { leaf = λ l x h. (six_parts l x h).3; word = λ c x h. refl; object = λ k h. refl }
 
-pub bodies_too : (v : ℕ) (table : List Class) (declared : List NamedPool) (named : List NamedBody)
-    → IsWeaker (every v table declared named) (bodies named)
-bodies_too v table declared named = record {
-  leaf = λ l x h. (five_parts v table declared named l x h).4;
-  word = λ c x h. refl;
-  object = λ k h. refl;
-}
+  pub bodies_too : IsWeaker (every v table declared named scheduled) (bodies named)
+  bodies_too = record { leaf = λ l x h. (six_parts l x h).4; word = λ c x h. refl; object = λ k h. refl }
+
+  pub cooperators_too : IsWeaker (every v table declared named scheduled) (cooperators scheduled)
+  cooperators_too = record { leaf = λ l x h. (six_parts l x h).5; word = λ c x h. refl; object = λ k h. refl }

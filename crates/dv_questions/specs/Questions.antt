@@ -4,6 +4,7 @@ use Rattle.std.specs.List.{list_any}
 use Rattle.dv_value.specs.declared.classes.Class.{Class}
 use Rattle.dv_value.specs.Classes.{find_class}
 use Rattle.dv_script.specs.declared.script.NamedBody.{NamedBody}
+use Rattle.dv_script.specs.declared.script.NamedCooperator.{NamedCooperator}
 use Rattle.dv_script.specs.declared.script.NamedPool.{NamedPool}
 use Rattle.dv_forms.specs.declared.want.Object.{Object}
 use Rattle.dv_forms.specs.declared.want.Object.TheVariants as object
@@ -13,7 +14,8 @@ use Rattle.dv_forms.specs.declared.want.CallKind.{CallKind}
 use Rattle.dv_forms.specs.declared.want.Keyed.{Keyed}
 use Rattle.dv_forms.specs.declared.want.Keyed.TheVariants as keyed
 use Rattle.dv_forms.specs.Words.{may_stand}
-use Rattle.dv_forms.specs.declared.versions.TheConstants.{BODIES_SINCE, COMMENTS_SINCE, FAILURES_SINCE}
+use Rattle.dv_forms.specs.declared.versions.TheConstants.{BODIES_SINCE, COMMENTS_SINCE, COOPERATORS_SINCE}
+use Rattle.dv_forms.specs.declared.versions.TheConstants.{FAILURES_SINCE}
 use Rattle.dv_questions.specs.declared.question.Question.{Question}
 use Rattle.dv_questions.specs.declared.question.Question.TheVariants as question
 use Rattle.dv_questions.specs.Names.{is_name, names_one}
@@ -29,6 +31,7 @@ is_found_named version object.Task name = is_name version name
 is_found_named version object.Pool name = is_name version name
 is_found_named version object.Class name = true
 is_found_named version object.Body name = is_name version name
+is_found_named version object.Cooperator name = is_name version name
 
 -- whether a name has the form that its place asks for in a script of this version
 abbrev pub is_named : ℕ → Leaf → List ℕ → Bool
@@ -43,7 +46,7 @@ is_named version leaf.ListFlag name = true
 is_named version leaf.GatherFlag name = true
 is_named version leaf.Comment name = true
 
--- whether a script of this version may have such an object: only a body by name needs a later one
+-- whether a script of this version may have such an object: a body and a Cooperator by name need a later one
 abbrev pub has_object : ℕ → Object → Bool
 has_object version object.Deferred = true
 has_object version object.Lock = true
@@ -54,6 +57,7 @@ has_object version object.Task = true
 has_object version object.Pool = true
 has_object version object.Class = true
 has_object version object.Body = nat_le BODIES_SINCE version
+has_object version object.Cooperator = nat_le COOPERATORS_SINCE version
 
 -- whether a text may stand at such a place in a script of this version, whatever it says
 abbrev pub stands : ℕ → Leaf → Bool
@@ -89,6 +93,7 @@ is_class (leaf.Found object.Task) = false
 is_class (leaf.Found object.Pool) = false
 is_class (leaf.Found object.Class) = true
 is_class (leaf.Found object.Body) = false
+is_class (leaf.Found object.Cooperator) = false
 is_class leaf.Integer = false
 is_class (leaf.Number low high) = false
 is_class leaf.Boolean = false
@@ -110,6 +115,7 @@ is_pool (leaf.Found object.Task) = false
 is_pool (leaf.Found object.Pool) = true
 is_pool (leaf.Found object.Class) = false
 is_pool (leaf.Found object.Body) = false
+is_pool (leaf.Found object.Cooperator) = false
 is_pool leaf.Integer = false
 is_pool (leaf.Number low high) = false
 is_pool leaf.Boolean = false
@@ -131,6 +137,7 @@ is_body (leaf.Found object.Task) = false
 is_body (leaf.Found object.Pool) = false
 is_body (leaf.Found object.Class) = false
 is_body (leaf.Found object.Body) = true
+is_body (leaf.Found object.Cooperator) = false
 is_body leaf.Integer = false
 is_body (leaf.Number low high) = false
 is_body leaf.Boolean = false
@@ -138,6 +145,28 @@ is_body leaf.Bound = false
 is_body leaf.ListFlag = false
 is_body leaf.GatherFlag = false
 is_body leaf.Comment = false
+
+-- whether a Cooperator is looked up there
+abbrev pub is_cooperator : Leaf → Bool
+is_cooperator leaf.Text = false
+is_cooperator (leaf.New o) = false
+is_cooperator (leaf.Found object.Deferred) = false
+is_cooperator (leaf.Found object.Lock) = false
+is_cooperator (leaf.Found object.Queue) = false
+is_cooperator (leaf.Found object.Call) = false
+is_cooperator (leaf.Found object.Loop) = false
+is_cooperator (leaf.Found object.Task) = false
+is_cooperator (leaf.Found object.Pool) = false
+is_cooperator (leaf.Found object.Class) = false
+is_cooperator (leaf.Found object.Body) = false
+is_cooperator (leaf.Found object.Cooperator) = true
+is_cooperator leaf.Integer = false
+is_cooperator (leaf.Number low high) = false
+is_cooperator leaf.Boolean = false
+is_cooperator leaf.Bound = false
+is_cooperator leaf.ListFlag = false
+is_cooperator leaf.GatherFlag = false
+is_cooperator leaf.Comment = false
 
 -- whether a class that is looked up is in this table
 abbrev pub is_known : List Class → Leaf → List ℕ → Bool
@@ -158,6 +187,14 @@ has_body name bodies = list_any (λ body. bytes_eq body.name name) bodies
 -- whether a body that is looked up is one of these
 abbrev pub is_declared : List NamedBody → Leaf → List ℕ → Bool
 is_declared bodies l name = not (is_body l) || has_body name bodies
+
+-- whether one of these Cooperators has this name
+abbrev pub has_cooperator : List ℕ → List NamedCooperator → Bool
+has_cooperator name cooperators = list_any (λ cooperator. bytes_eq cooperator.name name) cooperators
+
+-- whether a Cooperator that is looked up is one of these
+abbrev pub is_scheduled : List NamedCooperator → Leaf → List ℕ → Bool
+is_scheduled cooperators l name = not (is_cooperator l) || has_cooperator name cooperators
 
 -- a question: what it asks of a text at the place of a leaf, of the word of a call, and of an object
 pub record Asked : Type 0 where
@@ -189,12 +226,20 @@ pools declared = record { of_leaf = is_pooled declared; of_word = λ c word. tru
 abbrev pub bodies : List NamedBody → Asked
 bodies named = record { of_leaf = is_declared named; of_word = λ c word. true; of_object = λ k. true }
 
--- all five
-abbrev pub every : ℕ → List Class → List NamedPool → List NamedBody → Asked
-every version table declared named = record {
+-- whether each Cooperator that is used by its name is one of these
+abbrev pub cooperators : List NamedCooperator → Asked
+cooperators scheduled = record {
+  of_leaf = is_scheduled scheduled;
+  of_word = λ c word. true;
+  of_object = λ k. true;
+}
+
+-- all six
+abbrev pub every : ℕ → List Class → List NamedPool → List NamedBody → List NamedCooperator → Asked
+every version table declared named scheduled = record {
   of_leaf = λ l name.
       stands version l && is_named version l name && is_known table l name && is_pooled declared l name
-      && is_declared named l name;
+      && is_declared named l name && is_scheduled scheduled l name;
   of_word = λ c word. may_stand c word version;
   of_object = object_stands version;
 }
@@ -206,4 +251,6 @@ asked_by (question.Names version) = names version
 asked_by (question.Classes table) = classes table.now
 asked_by (question.Pools declared) = pools declared.now
 asked_by (question.Bodies named) = bodies named.now
-asked_by (question.Every version table declared named) = every version table.now declared.now named.now
+asked_by (question.Cooperators scheduled) = cooperators scheduled.now
+asked_by (question.Every version table declared named scheduled) =
+    every version table.now declared.now named.now scheduled.now

@@ -5,13 +5,14 @@ ghost use Rattle.dv_forms.specs.Words.{may_stand};
 ghost use Rattle.dv_questions.specs.Questions.{is_found_named, is_named, is_class, is_pool, stands};
 ghost use Rattle.dv_questions.specs.Questions.{is_known, is_among, is_pooled, is_body};
 ghost use Rattle.dv_questions.specs.Questions.{has_body, has_object, is_declared, object_stands};
-ghost use Rattle.dv_questions.specs.Questions.{asked_by};
+ghost use Rattle.dv_questions.specs.Questions.{asked_by, has_cooperator, is_cooperator};
+ghost use Rattle.dv_questions.specs.Questions.{is_scheduled};
 
 use crate::names::{is_name, names_one};
-use dv_forms::versions::{BODIES_SINCE, COMMENTS_SINCE, FAILURES_SINCE};
+use dv_forms::versions::{BODIES_SINCE, COMMENTS_SINCE, COOPERATORS_SINCE, FAILURES_SINCE};
 use dv_forms::want::{CallKind, Keyed, Leaf, Object};
 use dv_forms::words::may_stand;
-use dv_script::script::{NamedBody, NamedPool};
+use dv_script::script::{NamedBody, NamedCooperator, NamedPool};
 use dv_value::classes::Classes;
 
 /// What is asked of the texts and the objects of a script.
@@ -27,8 +28,11 @@ pub enum Question<'q> {
     Pools(&'q [NamedPool]),
     /// Whether each body that is used by its name is one of these.
     Bodies(&'q [NamedBody]),
-    /// All five, of a script of this version with this table, these pools and these bodies.
-    Every(u32, &'q Classes, &'q [NamedPool], &'q [NamedBody]),
+    /// Whether each Cooperator that is used by its name is one of these.
+    Cooperators(&'q [NamedCooperator]),
+    /// All six, of a script of this version with this table, these pools, these bodies and these
+    /// Cooperators.
+    Every(u32, &'q Classes, &'q [NamedPool], &'q [NamedBody], &'q [NamedCooperator]),
 }
 
 fn is_found_named(version: u32, object: Object, name: &str) -> bool
@@ -43,7 +47,8 @@ fn is_found_named(version: u32, object: Object, name: &str) -> bool
         | Object::Loop
         | Object::Task
         | Object::Pool
-        | Object::Body => is_name(version, name),
+        | Object::Body
+        | Object::Cooperator => is_name(version, name),
     }
 }
 
@@ -71,6 +76,7 @@ pub fn has_object(version: u32, object: Object) -> bool
 {
     match object {
         Object::Body => BODIES_SINCE <= version,
+        Object::Cooperator => COOPERATORS_SINCE <= version,
         Object::Deferred
         | Object::Lock
         | Object::Queue
@@ -125,7 +131,8 @@ pub fn is_class(leaf: Leaf) -> bool
             | Object::Loop
             | Object::Task
             | Object::Pool
-            | Object::Body => false,
+            | Object::Body
+            | Object::Cooperator => false,
         },
         Leaf::Text
         | Leaf::New(_)
@@ -153,7 +160,8 @@ pub fn is_pool(leaf: Leaf) -> bool
             | Object::Loop
             | Object::Task
             | Object::Class
-            | Object::Body => false,
+            | Object::Body
+            | Object::Cooperator => false,
         },
         Leaf::Text
         | Leaf::New(_)
@@ -181,7 +189,37 @@ pub fn is_body(leaf: Leaf) -> bool
             | Object::Loop
             | Object::Task
             | Object::Pool
-            | Object::Class => false,
+            | Object::Class
+            | Object::Cooperator => false,
+        },
+        Leaf::Text
+        | Leaf::New(_)
+        | Leaf::Integer
+        | Leaf::Number(_, _)
+        | Leaf::Boolean
+        | Leaf::Bound
+        | Leaf::ListFlag
+        | Leaf::GatherFlag
+        | Leaf::Comment => false,
+    }
+}
+
+/// Whether a Cooperator is looked up there.
+pub fn is_cooperator(leaf: Leaf) -> bool
+    ensures { result ≡ is_cooperator leaf }
+{
+    match leaf {
+        Leaf::Found(object) => match object {
+            Object::Cooperator => true,
+            Object::Deferred
+            | Object::Lock
+            | Object::Queue
+            | Object::Call
+            | Object::Loop
+            | Object::Task
+            | Object::Pool
+            | Object::Class
+            | Object::Body => false,
         },
         Leaf::Text
         | Leaf::New(_)
@@ -230,19 +268,36 @@ fn is_declared(bodies: &[NamedBody], leaf: Leaf, name: &str) -> bool
     !is_body(leaf) || has_body(name, bodies)
 }
 
+/// Whether one of these Cooperators has this name.
+pub fn has_cooperator(name: &str, cooperators: &[NamedCooperator]) -> bool
+    ensures { result ≡ has_cooperator name.now cooperators.now }
+{
+    cooperators
+        .iter()
+        .any(|cooperator| cooperator.name.as_str() == name)
+}
+
+/// Whether a Cooperator that is looked up is one of these.
+fn is_scheduled(cooperators: &[NamedCooperator], leaf: Leaf, name: &str) -> bool
+    ensures { result ≡ is_scheduled cooperators.now leaf name.now }
+{
+    !is_cooperator(leaf) || has_cooperator(name, cooperators)
+}
+
 /// Whether a text at the place of a leaf may stand there in a script of this version, is well
-/// named, and is found if a class, a pool or a body is looked up there.
+/// named, and is found if a class, a pool, a body or a Cooperator is looked up there.
 fn suits_every(
     version: u32,
     classes: &Classes,
     pools: &[NamedPool],
     bodies: &[NamedBody],
+    cooperators: &[NamedCooperator],
     leaf: Leaf,
     name: &str,
 ) -> bool
     ensures { result ≡ (stands version leaf && is_named version leaf name.now
         && is_known classes.now leaf name.now && is_pooled pools.now leaf name.now
-        && is_declared bodies.now leaf name.now) }
+        && is_declared bodies.now leaf name.now && is_scheduled cooperators.now leaf name.now) }
 {
     match leaf {
         Leaf::Found(Object::Deferred) => names_one(version, name),
@@ -250,6 +305,11 @@ fn suits_every(
         Leaf::Found(Object::Pool) => is_name(version, name) && is_among(name, pools),
         Leaf::Found(Object::Body) => {
             has_object(version, Object::Body) && is_name(version, name) && has_body(name, bodies)
+        }
+        Leaf::Found(Object::Cooperator) => {
+            has_object(version, Object::Cooperator)
+                && is_name(version, name)
+                && has_cooperator(name, cooperators)
         }
         Leaf::New(_)
         | Leaf::Found(Object::Lock | Object::Queue | Object::Call | Object::Loop | Object::Task) =>
@@ -276,8 +336,9 @@ impl Question<'_> {
             Question::Classes(classes) => is_known(classes, leaf, name),
             Question::Pools(pools) => is_pooled(pools, leaf, name),
             Question::Bodies(bodies) => is_declared(bodies, leaf, name),
-            Question::Every(version, classes, pools, bodies) => {
-                suits_every(*version, classes, pools, bodies, leaf, name)
+            Question::Cooperators(cooperators) => is_scheduled(cooperators, leaf, name),
+            Question::Every(version, classes, pools, bodies, cooperators) => {
+                suits_every(*version, classes, pools, bodies, cooperators, leaf, name)
             }
         }
     }
@@ -287,11 +348,14 @@ impl Question<'_> {
         ensures { result ≡ (asked_by self.now).of_word call word.now }
     {
         match self {
-            Question::Words(version) | Question::Every(version, _, _, _) => {
+            Question::Words(version) | Question::Every(version, _, _, _, _) => {
                 may_stand(call, word, *version)
             }
-            Question::Names(_) | Question::Classes(_) | Question::Pools(_) | Question::Bodies(_) =>
-                true,
+            Question::Names(_)
+            | Question::Classes(_)
+            | Question::Pools(_)
+            | Question::Bodies(_)
+            | Question::Cooperators(_) => true,
         }
     }
 
@@ -301,11 +365,14 @@ impl Question<'_> {
         ensures { result ≡ (asked_by self.now).of_word call word.now }
     {
         match self {
-            Question::Words(version) | Question::Every(version, _, _, _) => {
+            Question::Words(version) | Question::Every(version, _, _, _, _) => {
                 since <= *version || may_stand(call, word, *version)
             }
-            Question::Names(_) | Question::Classes(_) | Question::Pools(_) | Question::Bodies(_) =>
-                true,
+            Question::Names(_)
+            | Question::Classes(_)
+            | Question::Pools(_)
+            | Question::Bodies(_)
+            | Question::Cooperators(_) => true,
         }
     }
 
@@ -314,11 +381,14 @@ impl Question<'_> {
         ensures { result ≡ (asked_by self.now).of_object keyed }
     {
         match self {
-            Question::Words(version) | Question::Every(version, _, _, _) => {
+            Question::Words(version) | Question::Every(version, _, _, _, _) => {
                 object_stands(*version, keyed)
             }
-            Question::Names(_) | Question::Classes(_) | Question::Pools(_) | Question::Bodies(_) =>
-                true,
+            Question::Names(_)
+            | Question::Classes(_)
+            | Question::Pools(_)
+            | Question::Bodies(_)
+            | Question::Cooperators(_) => true,
         }
     }
 }

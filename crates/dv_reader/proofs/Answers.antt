@@ -10,17 +10,18 @@ use Rattle.dv_script.specs.declared.limits.TheConstants.{MOST_POOLS, USUAL_LIMIT
 use Rattle.dv_reader.specs.declared.error.ScriptFault.{ScriptFault}
 use Rattle.dv_reader.specs.declared.error.ScriptFault.TheVariants.{TooLong, NotJson, BadVersion, BadShape, TooMany}
 use Rattle.dv_reader.specs.declared.error.ScriptFault.TheVariants.{BadName, BadClass, OutOfMemory, BadPool, BadBody}
+use Rattle.dv_reader.specs.declared.error.ScriptFault.TheVariants.{BadCooperator}
 use Rattle.dv_forms.specs.Forms.{Field, IsNumber}
 use Rattle.dv_forms.specs.Limits.{most_limit, most_nodes}
 use Rattle.dv_forms.specs.declared.limits.TheConstants.{WIDEST_LIMIT, WIDEST_NODES}
-use Rattle.dv_reader.specs.Limits.{nodes, is_small}
+use Rattle.dv_reader.specs.Limits.{all_nodes, is_small}
 use Rattle.dv_reader.specs.Refusal.{IsDocument, IsMisshapen, keeps_version, HasShape, Says, Refuses}
 use Rattle.dv_grammar.specs.Shape.{script_at}
 use Rattle.dv_reader.specs.Passes.{JudgedIn, Passes, is_version, shape_at}
 use Rattle.dv_grammar.proofs.Steps.{some_injective, bind}
 use Rattle.dv_grammar.proofs.Scripts.{complete_script}
 use Rattle.dv_grammar.proofs.Scripts.{sound_script}
-use Rattle.dv_reader.proofs.Accepted.{shape_found}
+use Rattle.dv_reader.proofs.Accepted.{shape_found, small_nodes}
 use Rattle.dv_reader.proofs.Version.{version_is, no_version}
 use Rattle.dv_reader.proofs.Count.{events_few}
 use Rattle.dv_reader.proofs.Lengths.{limit_most, nodes_most}
@@ -65,6 +66,7 @@ says bytes (Ok s) h = let j = h.4 in record {
   known = j.6;
   pooled = j.7;
   bodied = j.8;
+  scheduled = j.9;
 }
 says bytes (Err fault) h = tt
 
@@ -90,16 +92,18 @@ refuses bytes (Err BadPool) h =
     let j = h.4 in (h.0, j.0, shaped bytes h.0 j.0 (document bytes (Err BadPool) h) j.1 j.2, j.3, j.4, j.5, j.6)
 refuses bytes (Err BadBody) h =
     let j = h.4 in (h.0, j.0, shaped bytes h.0 j.0 (document bytes (Err BadBody) h) j.1 j.2, j.3, j.4, j.5, j.6, j.7)
+refuses bytes (Err BadCooperator) h =
+    let j = h.4 in
+    (h.0, j.0, shaped bytes h.0 j.0 (document bytes (Err BadCooperator) h) j.1 j.2, j.3, j.4, j.5, j.6, j.7, j.8)
 
 pub few : (bytes : List ℕ) (r : Result Script ScriptFault) → Passes bytes r
     → IfOk r (λ s. length s.events ≤ WIDEST_NODES)
 few bytes (Ok s) h =
     let j = h.4 in
     let same : length s.events ≡ length j.0.script.events = ap (λ (x : Script). length x.events) (sym j.3) in
-    let few_events : length j.0.script.events ≤ nodes h.0 =
-    events_few h.0 j.0 (sound_script h.0 j.0 (shape_is h.0 j.0 j.2).0) in
-    let few_nodes : nodes h.0 ≤ most_nodes j.0.version = leb-true (nodes h.0) (most_nodes j.0.version)
-    (and_parts _ _ (and_parts _ _ (and_parts _ _ (and_parts _ _ (and_parts _ _ (and_parts _ _ j.4).0).0).0).0).0).0 in
+    let few_events : length j.0.script.events ≤ all_nodes h.0 =
+    events_few h.0 j.0 (depth-read bytes h.0 h.3) (sound_script h.0 j.0 (shape_is h.0 j.0 j.2).0) in
+    let few_nodes : all_nodes h.0 ≤ most_nodes j.0.version = small_nodes h.0 j.0 j.4 in
     omega (arith, same, few_events, few_nodes, nodes_most j.0.version)
 few bytes (Err fault) h = tt
 
@@ -120,7 +124,7 @@ limited bytes (Err fault) h = tt
 small_pools : (d : Data) (draft : Draft) → is_small d draft ≡ true → length draft.script.pools ≤ MOST_POOLS
 small_pools d draft e =
     leb-true (length draft.script.pools) MOST_POOLS
-    (and_parts _ _ (and_parts _ _ (and_parts _ _ (and_parts _ _ (and_parts _ _ e).0).0).0).0).1
+    (and_parts _ _ (and_parts _ _ (and_parts _ _ (and_parts _ _ (and_parts _ _ (and_parts _ _ e).0).0).0).0).0).1
 
 pub few_pools : (bytes : List ℕ) (r : Result Script ScriptFault) → Passes bytes r
     → IfOk r (λ s. length s.pools ≤ MOST_POOLS)

@@ -7,10 +7,11 @@ use Rattle.dv_script.specs.declared.script.Script.{Script}
 use Rattle.dv_grammar.specs.declared.draft.Draft.{Draft}
 use Rattle.dv_reader.specs.declared.error.ScriptFault.TheVariants.{TooLong, NotJson, BadVersion, BadShape, TooMany}
 use Rattle.dv_reader.specs.declared.error.ScriptFault.TheVariants.{BadName, BadClass, OutOfMemory, BadPool, BadBody}
+use Rattle.dv_reader.specs.declared.error.ScriptFault.TheVariants.{BadCooperator}
 use Rattle.dv_grammar.specs.Grammar.{IsScript}
 use Rattle.dv_reader.specs.Limits.{is_small}
 use Rattle.dv_reader.specs.Refusal.{IsDocument, HasVersion, HasShape, keeps_version, are_named, are_known, are_pooled}
-use Rattle.dv_reader.specs.Refusal.{have_bodies, Says}
+use Rattle.dv_reader.specs.Refusal.{have_bodies, have_cooperators, Says}
 use Rattle.dv_reader.specs.Passes.{is_version, shape_at}
 use Rattle.dv_reader.specs.Laws.{IsRefused, SaysOneAtMost, RefusedSaysNone, SaysOrIsRefused}
 use Rattle.dv_grammar.proofs.Steps.{some_injective}
@@ -87,6 +88,12 @@ refused_says_none bytes BadBody s other h a =
     let good : have_bodies a.json a.draft ≡ true = a.bodied in
     let bad : have_bodies h.0 h.1 ≡ false = h.7 in
     cc
+refused_says_none bytes BadCooperator s other h a =
+    let same : have_cooperators a.json a.draft ≡ have_cooperators h.0 h.1 =
+    same_test have_cooperators bytes a.json h.0 a.draft h.1 a.shape h.2 in
+    let good : have_cooperators a.json a.draft ≡ true = a.scheduled in
+    let bad : have_cooperators h.0 h.1 ≡ false = h.8 in
+    cc
 
 pub tested : (b : Bool) → (b ≡ true) ⊎ (b ≡ false)
 tested true = inl refl
@@ -99,10 +106,11 @@ looked None = inr refl
 abbrev Answered : List ℕ → Type 0
 Answered bytes = ((s : Script) × Says bytes s) ⊎ IsRefused bytes
 
-bodied_or_not : (bytes : List ℕ) (d : Data) (draft : Draft) → HasShape bytes d draft → is_small d draft ≡ true
-    → are_named d draft ≡ true → are_known d draft ≡ true → are_pooled d draft ≡ true → Answered bytes
-bodied_or_not bytes d draft shape small named known pooled = elim (tested (have_bodies d draft)) [
-  | inl bodied ↦ inl (
+scheduled_or_not : (bytes : List ℕ) (d : Data) (draft : Draft) → HasShape bytes d draft → is_small d draft ≡ true
+    → are_named d draft ≡ true → are_known d draft ≡ true → are_pooled d draft ≡ true → have_bodies d draft ≡ true
+    → Answered bytes
+scheduled_or_not bytes d draft shape small named known pooled bodied = elim (tested (have_cooperators d draft)) [
+  | inl scheduled ↦ inl (
     draft.script,
     record {
       json = d;
@@ -114,8 +122,17 @@ bodied_or_not bytes d draft shape small named known pooled = elim (tested (have_
       known = known;
       pooled = pooled;
       bodied = bodied;
+      scheduled = scheduled;
     },
   )
+  | inr unscheduled ↦
+      inr (BadCooperator, (λ e. cc), (d, draft, shape, small, named, known, pooled, bodied, unscheduled))
+]
+
+bodied_or_not : (bytes : List ℕ) (d : Data) (draft : Draft) → HasShape bytes d draft → is_small d draft ≡ true
+    → are_named d draft ≡ true → are_known d draft ≡ true → are_pooled d draft ≡ true → Answered bytes
+bodied_or_not bytes d draft shape small named known pooled = elim (tested (have_bodies d draft)) [
+  | inl bodied ↦ scheduled_or_not bytes d draft shape small named known pooled bodied
   | inr bodiless ↦ inr (BadBody, (λ e. cc), (d, draft, shape, small, named, known, pooled, bodiless))
 ]
 

@@ -8,3 +8,4 @@ pub mod TableLemmas
 pub mod TimesKept
 pub mod Version
 pub mod Lengths
+pub mod Cutting

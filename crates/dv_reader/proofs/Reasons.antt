@@ -9,10 +9,11 @@ use Rattle.dv_reader.proofs.Documents.{same_test, same_value}
 use Rattle.dv_reader.specs.Laws.{RefusedForOneReason}
 use Rattle.dv_reader.specs.Limits.{is_small}
 use Rattle.dv_reader.specs.Refusal.{IsTooLong, keeps_version, are_known, are_named, are_pooled, HasShape, HasVersion}
-use Rattle.dv_reader.specs.Refusal.{IsDocument, Refuses}
+use Rattle.dv_reader.specs.Refusal.{have_bodies, IsDocument, Refuses}
 use Rattle.dv_reader.specs.declared.error.ScriptFault.{ScriptFault}
 use Rattle.dv_reader.specs.declared.error.ScriptFault.TheVariants.{TooLong, NotJson, BadVersion, BadShape, TooMany}
 use Rattle.dv_reader.specs.declared.error.ScriptFault.TheVariants.{BadName, BadClass, OutOfMemory, BadPool, BadBody}
+use Rattle.dv_reader.specs.declared.error.ScriptFault.TheVariants.{BadCooperator}
 
 -- which test each reason fails
 abbrev rank : ScriptFault → ℕ
@@ -25,7 +26,8 @@ rank BadName = 5
 rank BadClass = 6
 rank BadPool = 7
 rank BadBody = 8
-rank OutOfMemory = 9
+rank BadCooperator = 9
+rank OutOfMemory = 10
 
 abbrev reason : ℕ → ScriptFault
 reason zero = TooLong
@@ -37,7 +39,8 @@ reason (suc (suc (suc (suc (suc zero))))) = BadName
 reason (suc (suc (suc (suc (suc (suc zero)))))) = BadClass
 reason (suc (suc (suc (suc (suc (suc (suc zero))))))) = BadPool
 reason (suc (suc (suc (suc (suc (suc (suc (suc zero)))))))) = BadBody
-reason (suc (suc (suc (suc (suc (suc (suc (suc (suc n))))))))) = OutOfMemory
+reason (suc (suc (suc (suc (suc (suc (suc (suc (suc zero))))))))) = BadCooperator
+reason (suc (suc (suc (suc (suc (suc (suc (suc (suc (suc n)))))))))) = OutOfMemory
 
 reason_back : (a : ScriptFault) → reason (rank a) ≡ a
 reason_back TooLong = refl
@@ -49,6 +52,7 @@ reason_back BadName = refl
 reason_back BadClass = refl
 reason_back BadPool = refl
 reason_back BadBody = refl
+reason_back BadCooperator = refl
 reason_back OutOfMemory = refl
 
 -- the bytes pass so many tests
@@ -65,9 +69,12 @@ Passes (suc (suc (suc (suc (suc (suc zero)))))) bytes =
 Passes (suc (suc (suc (suc (suc (suc (suc zero))))))) bytes =
     (d : Data) × (draft : Draft) × HasShape bytes d draft × (is_small d draft ≡ true) × (are_named d draft ≡ true)
     × (are_known d draft ≡ true)
-Passes (suc (suc (suc (suc (suc (suc (suc (suc n)))))))) bytes =
+Passes (suc (suc (suc (suc (suc (suc (suc (suc zero)))))))) bytes =
     (d : Data) × (draft : Draft) × HasShape bytes d draft × (is_small d draft ≡ true) × (are_named d draft ≡ true)
     × (are_known d draft ≡ true) × (are_pooled d draft ≡ true)
+Passes (suc (suc (suc (suc (suc (suc (suc (suc (suc n))))))))) bytes =
+    (d : Data) × (draft : Draft) × HasShape bytes d draft × (is_small d draft ≡ true) × (are_named d draft ≡ true)
+    × (are_known d draft ≡ true) × (are_pooled d draft ≡ true) × (have_bodies d draft ≡ true)
 
 -- and so one test fewer
 fewer : (n : ℕ) (bytes : List ℕ) → Passes (suc n) bytes → Passes n bytes
@@ -81,7 +88,8 @@ fewer (suc (suc (suc (suc zero)))) bytes p = (p.0, p.1, p.2)
 fewer (suc (suc (suc (suc (suc zero))))) bytes p = (p.0, p.1, p.2, p.3)
 fewer (suc (suc (suc (suc (suc (suc zero)))))) bytes p = (p.0, p.1, p.2, p.3, p.4)
 fewer (suc (suc (suc (suc (suc (suc (suc zero))))))) bytes p = (p.0, p.1, p.2, p.3, p.4, p.5)
-fewer (suc (suc (suc (suc (suc (suc (suc (suc n)))))))) bytes p = p
+fewer (suc (suc (suc (suc (suc (suc (suc (suc zero)))))))) bytes p = (p.0, p.1, p.2, p.3, p.4, p.5, p.6)
+fewer (suc (suc (suc (suc (suc (suc (suc (suc (suc n))))))))) bytes p = p
 
 all_fewer : (k n m : ℕ) (bytes : List ℕ) → m ≡ k + n → Passes m bytes → Passes n bytes
 all_fewer zero n m bytes is p =
@@ -102,10 +110,11 @@ passed bytes BadName other h = (h.0, h.1, h.2, h.3)
 passed bytes BadClass other h = (h.0, h.1, h.2, h.3, h.4)
 passed bytes BadPool other h = (h.0, h.1, h.2, h.3, h.4, h.5)
 passed bytes BadBody other h = (h.0, h.1, h.2, h.3, h.4, h.5, h.6)
+passed bytes BadCooperator other h = (h.0, h.1, h.2, h.3, h.4, h.5, h.6, h.7)
 passed bytes OutOfMemory other h = absurd (other refl)
 
 -- and fails the next, so it doesn't pass one more, where there is one
-failed : (bytes : List ℕ) (a : ScriptFault) → rank a < 8 → Refuses a bytes → Passes (suc (rank a)) bytes → ⊥
+failed : (bytes : List ℕ) (a : ScriptFault) → rank a < 9 → Refuses a bytes → Passes (suc (rank a)) bytes → ⊥
 failed bytes TooLong low h p = p h
 failed bytes NotJson low h p = let unread = h.1 p.1.text in let is = p.1.is in cc
 failed bytes BadVersion low h p = h.2 (subst HasVersion (same_value bytes p.0 h.0 p.1 h.1) p.2)
@@ -132,10 +141,15 @@ failed bytes BadPool low h p =
     let good : are_pooled p.0 p.1 ≡ true = p.6 in
     let bad : are_pooled h.0 h.1 ≡ false = h.6 in
     cc
-failed bytes BadBody low h p = absurd (omega (arith, low))
+failed bytes BadBody low h p =
+    let same : have_bodies p.0 p.1 ≡ have_bodies h.0 h.1 = same_test have_bodies bytes p.0 h.0 p.1 h.1 p.2 h.2 in
+    let good : have_bodies p.0 p.1 ≡ true = p.7 in
+    let bad : have_bodies h.0 h.1 ≡ false = h.7 in
+    cc
+failed bytes BadCooperator low h p = absurd (omega (arith, low))
 failed bytes OutOfMemory low h p = absurd (omega (arith, low))
 
-most_rank : (b : ScriptFault) → b ≢ OutOfMemory → rank b ≤ 8
+most_rank : (b : ScriptFault) → b ≢ OutOfMemory → rank b ≤ 9
 most_rank TooLong other = omega arith
 most_rank NotJson other = omega arith
 most_rank BadVersion other = omega arith
@@ -145,14 +159,15 @@ most_rank BadName other = omega arith
 most_rank BadClass other = omega arith
 most_rank BadPool other = omega arith
 most_rank BadBody other = omega arith
+most_rank BadCooperator other = omega arith
 most_rank OutOfMemory other = absurd (other refl)
 
 -- so nobody fails two tests
 not_below : (bytes : List ℕ) (a b : ScriptFault) → b ≢ OutOfMemory → rank a < rank b → Refuses a bytes → Refuses b bytes
     → ⊥
 not_below bytes a b other low h k =
-    let most : rank b ≤ 8 = most_rank b other in
-    let few : rank a < 8 = omega (arith, low, most) in
+    let most : rank b ≤ 9 = most_rank b other in
+    let few : rank a < 9 = omega (arith, low, most) in
     let more : rank b ≡ (rank b - suc (rank a)) + suc (rank a) = omega (arith, low) in
     failed bytes a few h (all_fewer (rank b - suc (rank a)) (suc (rank a)) (rank b) bytes more (passed bytes b other k))
 

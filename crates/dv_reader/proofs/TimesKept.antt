@@ -1,5 +1,5 @@
 -- No time of a script that is read is cut.
-use Rattle.std.proofs.Common.{◌≡◌, ◌≤◌, ℕ, List, [], ◌∷◌, Option, Some, None, Bool, true, refl, subst, arith, codes}
+use Rattle.std.proofs.Common.{◌≡◌, ◌≤◌, ℕ, zero, suc, List, [], ◌∷◌, ◌++◌, Option, Some, None, Bool, true, refl, subst, arith, codes}
 use Rattle.std.specs.List.{list_all}
 use Rattle.std.proofs.lemmas.Bool.{and_parts, leb-true}
 use Rattle.serde_json.specs.Data.{Data, Items, no_items, item}
@@ -8,13 +8,16 @@ use Rattle.dv_clock.specs.declared.limits.TheConstants.{MOST_DELAY, MOST_TICKS}
 use Rattle.dv_script.specs.declared.event.Event.{Event}
 use Rattle.dv_script.specs.declared.script.Cooperator.{Cooperator}
 use Rattle.dv_script.specs.declared.script.NamedBody.{NamedBody}
+use Rattle.dv_script.specs.declared.script.NamedCooperator.{NamedCooperator}
 use Rattle.dv_value.specs.declared.classes.Class.{Class}
 use Rattle.dv_forms.specs.Forms.{Each, Field, IsList, IsNumber, Key}
 use Rattle.dv_reader.specs.Laws.{TimesAreKept}
 use Rattle.dv_reader.specs.Limits.{ticks_in}
 use Rattle.dv_script.specs.declared.body.Body.{Body}
 use Rattle.dv_grammar.specs.Grammar.{plain_cooperator, IsBody, IsEvent, acts, advances, drains, expects, IsCooperator}
-use Rattle.dv_grammar.specs.Grammar.{is_interval, times_body, IsNamedBody, names_body}
+use Rattle.dv_grammar.specs.Grammar.{repeated, IsListed, one_event, repeats, AreListed, no_events, more_events}
+use Rattle.dv_grammar.specs.Grammar.{AreEvents, is_interval, times_body, IsNamedBody, names_body}
+use Rattle.dv_grammar.specs.Grammar.{IsNamedCooperator, names_cooperator}
 use Rattle.dv_grammar.proofs.Actions.{interval_is, short_action, short_body}
 use Rattle.dv_reader.specs.Times.{times_event, times_named, KeepsTimes}
 
@@ -36,10 +39,33 @@ all_in : {X : Type 0} (Is : Data → X → Type 0) (test : X → Bool) → ((d :
     → (d : Data) (xs : List X) → IsList Is d xs → list_all test xs ≡ true
 all_in Is test one d xs h = all_of Is test one h.0 xs h.2
 
-events_short : (table : List Class) (events : List Event) (o : Option Data) → Key (IsList (IsEvent table)) o events
+both_short : (es rest : List Event) → list_all times_event es ≡ true → list_all times_event rest ≡ true
+    → list_all times_event (es ++ rest) ≡ true
+both_short [] rest h k = k
+both_short (e ∷ es) rest h k =
+    let parts = and_parts (times_event e) (list_all times_event es) h in
+    rw (parts.0, both_short es rest parts.1 k) refl
+
+repeated_short : (n : ℕ) (es : List Event) → list_all times_event es ≡ true
+    → list_all times_event (repeated n es) ≡ true
+repeated_short zero es h = refl
+repeated_short (suc n) es h = both_short es (repeated n es) h (repeated_short n es h)
+
+mutual
+  listed_short : (table : List Class) {d : Data} {es : List Event} → IsListed table d es
+      → list_all times_event es ≡ true
+  listed_short table (one_event d e g) = rw (short_event table d e g) refl
+  listed_short table (repeats d n ds es g h) = repeated_short n es (row_short table h)
+
+  row_short : (table : List Class) {ds : Items} {es : List Event} → AreListed table ds es
+      → list_all times_event es ≡ true
+  row_short table no_events = refl
+  row_short table (more_events d ds es rest g h) = both_short es rest (listed_short table g) (row_short table h)
+
+events_short : (table : List Class) (events : List Event) (o : Option Data) → Key (AreEvents table) o events
     → list_all times_event events ≡ true
 events_short table events None h = absurd h
-events_short table events (Some d) h = all_in (IsEvent table) times_event (short_event table) d events h
+events_short table events (Some d) h = row_short table h.2
 
 posts_short : (table : List Class) (callers : List (List Body)) (o : Option Data)
     → Field [] (IsList (IsList (IsBody table))) o callers → list_all (λ posts. list_all times_body posts) callers ≡ true
@@ -65,6 +91,17 @@ cooperator_short : (c : Cooperator) (o : Option Data) → Field plain_cooperator
 cooperator_short c None h = rw h refl
 cooperator_short c (Some d) h = delay_short c.delay (get_member (codes "delay") h.members) h.delay
 
+short_named_cooperator : (d : Data) (c : NamedCooperator) → IsNamedCooperator d c
+    → is_interval c.settings.delay ≡ true
+short_named_cooperator _ _ (names_cooperator name d c g) = cooperator_short c (Some d) g
+
+cooperators_short : (cooperators : List NamedCooperator) (o : Option Data)
+    → Field [] (IsList IsNamedCooperator) o cooperators
+    → list_all (λ c. is_interval c.settings.delay) cooperators ≡ true
+cooperators_short cooperators None h = rw h refl
+cooperators_short cooperators (Some d) h =
+    all_in IsNamedCooperator (λ c. is_interval c.settings.delay) short_named_cooperator d cooperators h
+
 pub times_are_kept : TimesAreKept
 times_are_kept bytes s h =
     let shape = h.shape.shape in
@@ -82,5 +119,8 @@ times_are_kept bytes s h =
           (get_member (codes "bodies") shape.members) shape.bodies;
       cooperator =
           cooperator_short h.draft.script.cooperator (get_member (codes "cooperator") shape.members) shape.cooperator;
+      cooperators =
+          cooperators_short h.draft.script.cooperators (get_member (codes "cooperators") shape.members)
+          shape.cooperators;
       advances = omega (arith, few);
     })

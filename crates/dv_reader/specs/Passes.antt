@@ -9,14 +9,15 @@ use Rattle.dv_script.specs.declared.limits.TheConstants.{MOST_BYTES}
 use Rattle.dv_reader.specs.declared.error.ScriptFault.{ScriptFault}
 use Rattle.dv_reader.specs.declared.error.ScriptFault.TheVariants.{TooLong, NotJson, BadVersion, BadShape, TooMany}
 use Rattle.dv_reader.specs.declared.error.ScriptFault.TheVariants.{BadName, BadClass, OutOfMemory, BadPool, BadBody}
+use Rattle.dv_reader.specs.declared.error.ScriptFault.TheVariants.{BadCooperator}
 use Rattle.dv_forms.specs.declared.versions.TheConstants.{LAST_VERSION}
 use Rattle.dv_forms.specs.declared.shape_fault.ShapeFault.{ShapeFault}
 use Rattle.dv_forms.specs.declared.shape_fault.ShapeFault.TheVariants as shape_fault
 use Rattle.dv_grammar.specs.declared.draft.Draft.{Draft}
 use Rattle.dv_reader.specs.Limits.{is_small, most_bytes_of}
 use Rattle.dv_reader.specs.Refusal.{IsTooLong, answers, keeps_version, are_named, are_known, are_pooled}
-use Rattle.dv_reader.specs.Refusal.{have_bodies}
-use Rattle.dv_questions.specs.Questions.{words, names, classes, pools, bodies}
+use Rattle.dv_reader.specs.Refusal.{have_bodies, have_cooperators}
+use Rattle.dv_questions.specs.Questions.{words, names, classes, pools, bodies, cooperators}
 use Rattle.dv_grammar.specs.Shape.{script_at}
 
 -- the refusal of a reader that stops
@@ -37,19 +38,20 @@ is_version d = is_of_language (option_and_then as_u64 (option_and_then as_number
 abbrev pub shape_at : Data → Option Draft
 shape_at d = option_and_then (λ draft. if keeps_version d draft then Some draft else None) (script_at d)
 
--- the document answers each of the five questions well
+-- the document answers each of the six questions well
 pub record IsSound (d : Data) (draft : Draft) : Type 0 where
   pub words_suit : answers (words draft.version) d draft ≡ true
   pub names_suit : answers (names draft.version) d draft ≡ true
   pub classes_suit : answers (classes draft.script.classes) d draft ≡ true
   pub pools_suit : answers (pools draft.script.pools) d draft ≡ true
   pub bodies_suit : answers (bodies draft.script.bodies) d draft ≡ true
+  pub cooperators_suit : answers (cooperators draft.script.cooperators) d draft ≡ true
 
 -- what the last passes find of a draft of a JSON value
 abbrev pub Accepts : Data → Draft → Result ⊤ ScriptFault → Type 0
 Accepts d draft (Ok t) =
     (keeps_version d draft ≡ true) × (is_small d draft ≡ true) × (are_named d draft ≡ true) × (are_known d draft ≡ true)
-    × (are_pooled d draft ≡ true) × (have_bodies d draft ≡ true)
+    × (are_pooled d draft ≡ true) × (have_bodies d draft ≡ true) × (have_cooperators d draft ≡ true)
 Accepts d draft (Err TooLong) = ⊥
 Accepts d draft (Err NotJson) = ⊥
 Accepts d draft (Err BadVersion) = ⊥
@@ -66,13 +68,16 @@ Accepts d draft (Err BadPool) =
 Accepts d draft (Err BadBody) =
     (keeps_version d draft ≡ true) × (is_small d draft ≡ true) × (are_named d draft ≡ true) × (are_known d draft ≡ true)
     × (are_pooled d draft ≡ true) × (have_bodies d draft ≡ false)
+Accepts d draft (Err BadCooperator) =
+    (keeps_version d draft ≡ true) × (is_small d draft ≡ true) × (are_named d draft ≡ true) × (are_known d draft ≡ true)
+    × (are_pooled d draft ≡ true) × (have_bodies d draft ≡ true) × (have_cooperators d draft ≡ false)
 
 -- what the passes find of a JSON value
 abbrev pub Judged : Data → Result Script ScriptFault → Type 0
 Judged d (Ok s) =
     (draft : Draft) × (is_version d ≡ true) × (shape_at d ≡ Some draft) × (draft.script ≡ s)
     × (is_small d draft ≡ true) × (are_named d draft ≡ true) × (are_known d draft ≡ true) × (are_pooled d draft ≡ true)
-    × (have_bodies d draft ≡ true)
+    × (have_bodies d draft ≡ true) × (have_cooperators d draft ≡ true)
 Judged d (Err TooLong) = ⊥
 Judged d (Err NotJson) = ⊥
 Judged d (Err BadVersion) = is_version d ≡ false
@@ -95,6 +100,11 @@ Judged d (Err BadBody) =
     (draft : Draft) × (is_version d ≡ true) × (shape_at d ≡ Some draft) × (is_small d draft ≡ true)
     × (are_named d draft ≡ true)
     × (are_known d draft ≡ true) × (are_pooled d draft ≡ true) × (have_bodies d draft ≡ false)
+Judged d (Err BadCooperator) =
+    (draft : Draft) × (is_version d ≡ true) × (shape_at d ≡ Some draft) × (is_small d draft ≡ true)
+    × (are_named d draft ≡ true)
+    × (are_known d draft ≡ true) × (are_pooled d draft ≡ true) × (have_bodies d draft ≡ true)
+    × (have_cooperators d draft ≡ false)
 
 -- what they find of the value that the bytes are
 abbrev pub JudgedIn : List ℕ → Result Script ScriptFault → Type 0
@@ -114,3 +124,4 @@ Passes bytes (Err BadClass) = JudgedIn bytes (Err BadClass)
 Passes bytes (Err OutOfMemory) = ⊤
 Passes bytes (Err BadPool) = JudgedIn bytes (Err BadPool)
 Passes bytes (Err BadBody) = JudgedIn bytes (Err BadBody)
+Passes bytes (Err BadCooperator) = JudgedIn bytes (Err BadCooperator)

@@ -5,6 +5,7 @@ use Rattle.serde_json.specs.Data.{Data, number, unsigned}
 use Rattle.serde_json.specs.Find.{get}
 use Rattle.serde_json.specs.Read.{read}
 use Rattle.dv_script.specs.declared.script.NamedBody.{NamedBody}
+use Rattle.dv_script.specs.declared.script.NamedCooperator.{NamedCooperator}
 use Rattle.dv_script.specs.declared.script.NamedPool.{NamedPool}
 use Rattle.dv_script.specs.declared.script.Script.{Script}
 use Rattle.dv_script.specs.declared.limits.TheConstants.{MOST_BYTES, MOST_LEVELS}
@@ -15,9 +16,11 @@ use Rattle.dv_grammar.specs.declared.draft.Draft.{Draft}
 use Rattle.dv_reader.specs.declared.error.ScriptFault.{ScriptFault}
 use Rattle.dv_reader.specs.declared.error.ScriptFault.TheVariants.{TooLong, NotJson, BadVersion, BadShape, TooMany}
 use Rattle.dv_reader.specs.declared.error.ScriptFault.TheVariants.{BadName, BadClass, OutOfMemory, BadPool, BadBody}
+use Rattle.dv_reader.specs.declared.error.ScriptFault.TheVariants.{BadCooperator}
 use Rattle.dv_grammar.specs.Grammar.{IsScript}
 use Rattle.dv_questions.specs.Asking.{all_suit}
-use Rattle.dv_questions.specs.Questions.{Asked, words, names, classes, pools, bodies, is_among, has_body}
+use Rattle.dv_questions.specs.Questions.{Asked, words, names, classes, pools, bodies, cooperators, is_among}
+use Rattle.dv_questions.specs.Questions.{has_body, has_cooperator}
 use Rattle.dv_reader.specs.Limits.{is_small, most_bytes_of}
 
 -- the bytes are the JSON text of this value, and not too long for its version
@@ -77,8 +80,18 @@ have_own_names (body ∷ bodies) = not (has_body body.name bodies) && have_own_n
 abbrev pub have_bodies : Data → Draft → Bool
 have_bodies d draft = have_own_names draft.script.bodies && answers (bodies draft.script.bodies) d draft
 
--- the bytes say this script: they have its shape, it is small enough, its names are good and its classes, pools and
--- bodies are known
+-- no Cooperator has the name of a later one
+abbrev pub are_apart : List NamedCooperator → Bool
+are_apart [] = true
+are_apart (cooperator ∷ cooperators) = not (has_cooperator cooperator.name cooperators) && are_apart cooperators
+
+-- no name of a Cooperator is given twice, and each Cooperator that the document uses by its name is declared
+abbrev pub have_cooperators : Data → Draft → Bool
+have_cooperators d draft =
+    are_apart draft.script.cooperators && answers (cooperators draft.script.cooperators) d draft
+
+-- the bytes say this script: they have its shape, it is small enough, its names are good and its classes, pools, bodies
+-- and Cooperators are known
 pub record Says (bytes : List ℕ) (script : Script) : Type 0 where
   pub json : Data
   pub draft : Draft
@@ -89,6 +102,7 @@ pub record Says (bytes : List ℕ) (script : Script) : Type 0 where
   pub known : are_known json draft ≡ true
   pub pooled : are_pooled json draft ≡ true
   pub bodied : have_bodies json draft ≡ true
+  pub scheduled : have_cooperators json draft ≡ true
 
 -- the bytes are more than a script of the first version may have, and more than that of their value may
 abbrev pub IsTooLong : List ℕ → Type 0
@@ -114,3 +128,7 @@ Refuses BadPool bytes =
 Refuses BadBody bytes =
     (d : Data) × (draft : Draft) × HasShape bytes d draft × (is_small d draft ≡ true) × (are_named d draft ≡ true)
     × (are_known d draft ≡ true) × (are_pooled d draft ≡ true) × (have_bodies d draft ≡ false)
+Refuses BadCooperator bytes =
+    (d : Data) × (draft : Draft) × HasShape bytes d draft × (is_small d draft ≡ true) × (are_named d draft ≡ true)
+    × (are_known d draft ≡ true) × (are_pooled d draft ≡ true) × (have_bodies d draft ≡ true)
+    × (have_cooperators d draft ≡ false)

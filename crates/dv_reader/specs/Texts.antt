@@ -3,6 +3,7 @@ use Rattle.std.specs.Prelude.{ℕ, List, ◌++◌, codes, decimal}
 use Rattle.dv_reader.specs.declared.error.ScriptFault.{ScriptFault}
 use Rattle.dv_reader.specs.declared.error.ScriptFault.TheVariants.{TooLong, NotJson, BadVersion, BadShape, TooMany}
 use Rattle.dv_reader.specs.declared.error.ScriptFault.TheVariants.{BadName, BadClass, OutOfMemory, BadPool, BadBody}
+use Rattle.dv_reader.specs.declared.error.ScriptFault.TheVariants.{BadCooperator}
 
 -- the number of a refusal
 abbrev pub refusal_number : ScriptFault → ℕ
@@ -16,6 +17,7 @@ refusal_number BadClass = 7
 refusal_number OutOfMemory = 8
 refusal_number BadPool = 9
 refusal_number BadBody = 10
+refusal_number BadCooperator = 11
 
 -- the name of a refusal
 abbrev pub refusal_name : ScriptFault → List ℕ
@@ -29,6 +31,7 @@ refusal_name BadClass = codes "BadClass"
 refusal_name OutOfMemory = codes "OutOfMemory"
 refusal_name BadPool = codes "BadPool"
 refusal_name BadBody = codes "BadBody"
+refusal_name BadCooperator = codes "BadCooperator"
 
 -- the line of a refusal
 abbrev pub refusal_text : ScriptFault → List ℕ

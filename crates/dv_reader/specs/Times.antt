@@ -21,11 +21,12 @@ times_event (event.Expect name expected) = true
 abbrev pub times_named : NamedBody → Bool
 times_named named = times_body named.body
 
--- no time of the script is cut: no delay and no interval of its actions and of its cooperator, and no time that the
+-- no time of the script is cut: no delay and no interval of its actions and of its cooperators, and no time that the
 -- clock reaches by its advances together
 pub record KeepsTimes (script : Script) : Type 0 where
   pub events : list_all times_event script.events ≡ true
   pub posts : list_all (λ posts. list_all times_body posts) script.callers ≡ true
   pub bodies : list_all times_named script.bodies ≡ true
   pub cooperator : is_interval script.cooperator.delay ≡ true
+  pub cooperators : list_all (λ c. is_interval c.settings.delay) script.cooperators ≡ true
   pub advances : min (ticks_in script.events) MOST_TICKS ≡ ticks_in script.events

@@ -17,11 +17,12 @@ pub enum ScriptFault {
     /// It is outside the grammar, or a number is outside its range.
     BadShape,
     /// It has more than 65,536 nodes, or in version 3 more than 1,000,000 (each array, object and
-    /// scalar is one); 256 classes, 4 pools, 256 bodies that it names, 8 callers or 256 posts of a
-    /// caller; or its advances sum to more than 10^15.
+    /// scalar is one), with those that its repeats add; 256 classes, 4 pools, 256 bodies or 256
+    /// Cooperators that it names, 8 callers or 256 posts of a caller; or its advances sum to more
+    /// than 10^15.
     TooMany,
-    /// A name of an object, of a pool, of a body or of a declared class isn't of 1 to 32 of A to Z,
-    /// a to z, 0 to 9 and `_`, and in version 3 `-`, `.` and `:` after the first, nor `@` where a
+    /// A name of an object, of a pool, of a body, of a Cooperator or of a declared class isn't of 1
+    /// to 32 of A to Z, a to z, 0 to 9 and `_`, and in version 3 `-`, `.` and `:` after the first, nor `@` where a
     /// Deferred that is there is named.
     BadName,
     /// A declared class has a name that is taken; or a parent, or a class that is used, isn't in
@@ -33,6 +34,8 @@ pub enum ScriptFault {
     BadPool,
     /// A body's name is given twice, or a body that is used by its name isn't declared.
     BadBody,
+    /// A Cooperator's name is given twice, or a Cooperator that is used by its name isn't declared.
+    BadCooperator,
 }
 
 impl From<ShapeFault> for ScriptFault {
@@ -50,7 +53,7 @@ impl From<ShapeFault> for ScriptFault {
 }
 
 /// The refusals, by number.
-pub const REFUSALS: [ScriptFault; 10] = [
+pub const REFUSALS: [ScriptFault; 11] = [
     ScriptFault::TooLong,
     ScriptFault::NotJson,
     ScriptFault::BadVersion,
@@ -61,6 +64,7 @@ pub const REFUSALS: [ScriptFault; 10] = [
     ScriptFault::OutOfMemory,
     ScriptFault::BadPool,
     ScriptFault::BadBody,
+    ScriptFault::BadCooperator,
 ];
 
 /// The number of a refusal.
@@ -78,6 +82,7 @@ pub fn refusal_number(refusal: ScriptFault) -> u32
         ScriptFault::OutOfMemory => 8,
         ScriptFault::BadPool => 9,
         ScriptFault::BadBody => 10,
+        ScriptFault::BadCooperator => 11,
     }
 }
 
@@ -96,6 +101,7 @@ pub fn refusal_name(refusal: ScriptFault) -> &'static str
         ScriptFault::OutOfMemory => "OutOfMemory",
         ScriptFault::BadPool => "BadPool",
         ScriptFault::BadBody => "BadBody",
+        ScriptFault::BadCooperator => "BadCooperator",
     }
 }
 
@@ -114,5 +120,6 @@ pub fn refusal_text(refusal: ScriptFault) -> &'static str
         ScriptFault::OutOfMemory => "script refused: 8 OutOfMemory",
         ScriptFault::BadPool => "script refused: 9 BadPool",
         ScriptFault::BadBody => "script refused: 10 BadBody",
+        ScriptFault::BadCooperator => "script refused: 11 BadCooperator",
     }
 }

@@ -1,19 +1,24 @@
-ghost use Rattle.std.specs.Prelude.{◌≡◌, ◌^◌, ◌-◌, min, nat_le};
+ghost use Rattle.std.specs.Prelude.{◌≡◌, ◌+◌, ◌^◌, ◌-◌, min, nat_le};
 ghost use Rattle.std.specs.List.{list_all};
 ghost use Rattle.serde_json.specs.View.{view, items_view, members_view};
 ghost use Rattle.dv_clock.specs.declared.limits.TheConstants.{MOST_TICKS};
 ghost use Rattle.dv_forms.specs.Limits.{most_bytes, most_nodes};
+ghost use Rattle.dv_forms.specs.Repeat.{repeat_at};
 ghost use Rattle.dv_reader.specs.Limits.{nodes, item_nodes, member_nodes, ticks_of, ticks_in};
+ghost use Rattle.dv_reader.specs.Limits.{weight, item_weights, member_weights, added_by, added_in};
+ghost use Rattle.dv_reader.specs.Limits.{added_among, added_at, added_to, all_nodes};
 ghost use Rattle.dv_reader.specs.Limits.{are_few, is_small, or_first, most_bytes_of};
 
 use dv_clock::limits::MOST_TICKS;
-use dv_forms::limits::{most_bytes, most_nodes};
+use dv_forms::limits::{WIDEST_NODES, most_bytes, most_nodes};
+use dv_forms::repeat::repeat_of;
 use dv_forms::versions::LAST_VERSION;
 use dv_grammar::draft::Draft;
 use dv_script::body::Body;
 use dv_script::event::Event;
 use dv_script::limits::{
-    MOST_BODIES, MOST_BYTES, MOST_CALLERS, MOST_CLASSES, MOST_POOLS, MOST_POSTS,
+    MOST_BODIES, MOST_BYTES, MOST_CALLERS, MOST_CLASSES, MOST_COOPERATORS, MOST_LEVELS, MOST_POOLS,
+    MOST_POSTS,
 };
 use dv_value::items::Items;
 use serde_json::{Map, Value as Json};
@@ -55,11 +60,123 @@ fn member_nodes(members: &Map<String, Json>) -> u64
     count
 }
 
-/// Whether a JSON value has few enough nodes for a script of this version.
-pub fn has_few_nodes(version: u32, json: &Json) -> bool
-    ensures { result ≡ nat_le (nodes (view json.now)) (most_nodes version) }
+/// How much the value weighs in what is repeated, to the last number of 64 bits.
+#[cycle(weights)]
+fn weight(json: &Json) -> u64
+    ensures { result ≡ min (weight (view json.now)) (2 ^ 64 - 1) }
 {
-    nodes(json) <= most_nodes(version)
+    match json {
+        Json::Null | Json::Bool(_) | Json::Number(_) => 1,
+        Json::String(text) => (text.as_str().len() as u64 / 64).saturating_add(1),
+        Json::Array(items) => item_weights(items.as_slice()).saturating_add(1),
+        Json::Object(members) => member_weights(members).saturating_add(1),
+    }
+}
+
+#[cycle(weights)]
+fn item_weights(items: &[Json]) -> u64
+    ensures { result ≡ min (item_weights (items_view items.now)) (2 ^ 64 - 1) }
+{
+    let mut total = 0u64;
+    for item in items {
+        total = total.saturating_add(weight(item));
+    }
+    total
+}
+
+#[cycle(weights)]
+fn member_weights(members: &Map<String, Json>) -> u64
+    ensures { result ≡ min (member_weights (members_view members.now.entries)) (2 ^ 64 - 1) }
+{
+    let mut total = 0u64;
+    for (_, json) in members.iter() {
+        total = total.saturating_add(weight(json));
+    }
+    total
+}
+
+/// How many nodes a repeat adds, to the last number of 64 bits.
+#[tactic(auto, using(crate::proofs::Cutting::adding))]
+fn added_by(times: u64, weight: u64, added: u64) -> u64
+    ensures { result ≡ min (added_by times weight added) (2 ^ 64 - 1) }
+{
+    times
+        .saturating_sub(1)
+        .saturating_mul(weight.saturating_add(added))
+        .saturating_add(added)
+}
+
+/// How many nodes the repeats of an array of events add, in which they nest to `levels`, to the
+/// last number of 64 bits.
+#[cycle(added)]
+#[tactic(auto, unfolding(crate::specs::Limits::added_in))]
+fn added_in(levels: u32, items: &[Json]) -> u64
+    ensures { result ≡ min (added_in levels (items_view items.now)) (2 ^ 64 - 1) }
+{
+    if levels == 0 {
+        return 0;
+    }
+    added_among(levels - 1, items)
+}
+
+#[cycle(added)]
+fn added_among(levels: u32, items: &[Json]) -> u64
+    ensures { result ≡ min (added_among (added_in levels) (items_view items.now)) (2 ^ 64 - 1) }
+{
+    let mut total = 0u64;
+    for item in items {
+        total = total.saturating_add(added_at(levels, item));
+    }
+    total
+}
+
+#[cycle(added)]
+fn added_at(levels: u32, json: &Json) -> u64
+    ensures { result ≡ min (added_at (added_in levels) (repeat_at (view json.now))) (2 ^ 64 - 1) }
+{
+    match repeat_of(json) {
+        Some((times, events)) => added_of(levels, times, events),
+        None => 0,
+    }
+}
+
+/// How many nodes a repeat of this array of events adds.
+#[cycle(added)]
+#[tactic(auto, using(crate::proofs::Cutting::cut_added))]
+fn added_of(levels: u32, times: u64, events: &[Json]) -> u64
+    ensures { result ≡ min (added_by times (1 + item_weights (items_view events.now))
+        (added_in levels (items_view events.now))) (2 ^ 64 - 1) }
+{
+    let weight = item_weights(events).saturating_add(1);
+    added_by(times, weight, added_in(levels, events))
+}
+
+/// How many nodes the repeats of a document add.
+#[tactic(auto, unfolding(crate::specs::Limits::added_in))]
+fn added_to(json: &Json) -> u64
+    ensures { result ≡ min (added_to (view json.now)) (2 ^ 64 - 1) }
+{
+    match json.get("events") {
+        Some(Json::Array(events)) => added_in(MOST_LEVELS, events.as_slice()),
+        Some(Json::Null | Json::Bool(_) | Json::Number(_) | Json::String(_) | Json::Object(_))
+        | None => 0,
+    }
+}
+
+/// Whether the repeats of a document add no more nodes than a script of any version may have: else
+/// they aren't written out.
+pub fn adds_few_nodes(json: &Json) -> bool
+    ensures { result ≡ nat_le (added_to (view json.now)) WIDEST_NODES }
+{
+    added_to(json) <= WIDEST_NODES
+}
+
+/// Whether a document has few enough nodes for a script of this version, with those that its
+/// repeats add.
+pub fn has_few_nodes(version: u32, json: &Json) -> bool
+    ensures { result ≡ nat_le (all_nodes (view json.now)) (most_nodes version) }
+{
+    nodes(json).saturating_add(added_to(json)) <= most_nodes(version)
 }
 
 fn or_first(version: Option<u64>) -> u32
@@ -123,8 +240,8 @@ fn all_are_few(callers: &[Items<Body>]) -> bool
     callers.iter().all(are_few)
 }
 
-/// Whether a script of this JSON value has few enough nodes, classes, pools, bodies, callers, posts
-/// and ticks.
+/// Whether a script of this JSON value has few enough nodes, classes, pools, bodies, Cooperators, callers,
+/// posts and ticks.
 pub fn is_small(json: &Json, draft: &Draft) -> bool
     ensures { result ≡ is_small (view json.now) draft.now }
 {
@@ -132,6 +249,7 @@ pub fn is_small(json: &Json, draft: &Draft) -> bool
         && draft.declared.as_slice().len() <= MOST_CLASSES
         && draft.script.pools.as_slice().len() <= MOST_POOLS
         && draft.script.bodies.as_slice().len() <= MOST_BODIES
+        && draft.script.cooperators.as_slice().len() <= MOST_COOPERATORS
         && draft.script.callers.as_slice().len() <= MOST_CALLERS as usize
         && all_are_few(draft.script.callers.as_slice())
         && has_few_ticks(draft.script.events.as_slice())

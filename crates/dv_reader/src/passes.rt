@@ -7,20 +7,20 @@ ghost use Rattle.dv_forms.specs.declared.limits.TheConstants.{WIDEST_LIMIT, WIDE
 ghost use Rattle.dv_questions.specs.Questions.{asked_by};
 ghost use Rattle.dv_reader.specs.Refusal.{answers, keeps_version, are_named, are_known};
 ghost use Rattle.dv_reader.specs.Refusal.{are_distinct, are_pooled, have_own_names, have_bodies};
-ghost use Rattle.dv_reader.specs.Refusal.{Says, Refuses};
+ghost use Rattle.dv_reader.specs.Refusal.{are_apart, have_cooperators, Says, Refuses};
 ghost use Rattle.dv_reader.specs.Passes.{is_version, Accepts, IsSound, Judged, Passes};
 
 use crate::error::ScriptFault;
-use crate::limits::{is_small, most_bytes_of};
+use crate::limits::{adds_few_nodes, is_small, most_bytes_of};
 use dv_forms::limits::WIDEST_BYTES;
 use dv_forms::versions::LAST_VERSION;
 use dv_forms::want::{Keyed, Want};
 use dv_grammar::draft::Draft;
 use dv_grammar::reading::script::shape;
 use dv_questions::asking::all_suit;
-use dv_questions::question::{Question, has_body, is_among};
+use dv_questions::question::{Question, has_body, has_cooperator, is_among};
 use dv_script::limits::{MOST_BYTES, MOST_LEVELS};
-use dv_script::script::{NamedBody, NamedPool, Script};
+use dv_script::script::{NamedBody, NamedCooperator, NamedPool, Script};
 use serde_json::Value as Json;
 use std::alloc::Global;
 
@@ -44,13 +44,20 @@ fn answers(question: &Question<'_>, json: &Json, draft: &Draft) -> bool
     all_suit(question, MOST_LEVELS + 1, script, json)
 }
 
-/// Whether the document answers all five questions well, which are asked in one pass.
+/// Whether the document answers all six questions well, which are asked in one pass.
 fn is_sound(json: &Json, draft: &Draft) -> bool
     ensures { result ≡ true → IsSound (view json.now) draft.now }
 {
     let pools = draft.script.pools.as_slice();
     let bodies = draft.script.bodies.as_slice();
-    let every = Question::Every(draft.version, &draft.script.classes, pools, bodies);
+    let cooperators = draft.script.cooperators.as_slice();
+    let every = Question::Every(
+        draft.version,
+        &draft.script.classes,
+        pools,
+        bodies,
+        cooperators,
+    );
     answers(&every, json, draft)
 }
 
@@ -109,8 +116,27 @@ fn have_bodies(sound: bool, json: &Json, draft: &Draft) -> bool
     have_own_names(bodies) && (sound || answers(&Question::Bodies(bodies), json, draft))
 }
 
+fn are_apart(cooperators: &[NamedCooperator]) -> bool
+    ensures { result ≡ are_apart cooperators.now }
+{
+    match cooperators.split_first() {
+        None => true,
+        Some((cooperator, rest)) => {
+            !has_cooperator(cooperator.name.as_str(), rest) && are_apart(rest)
+        }
+    }
+}
+
+fn have_cooperators(sound: bool, json: &Json, draft: &Draft) -> bool
+    requires { sound ≡ true → IsSound (view json.now) draft.now }
+    ensures { result ≡ have_cooperators (view json.now) draft.now }
+{
+    let cooperators = draft.script.cooperators.as_slice();
+    are_apart(cooperators) && (sound || answers(&Question::Cooperators(cooperators), json, draft))
+}
+
 /// Whether a draft of this JSON value keeps to its version, is small enough, is named well and
-/// knows its classes, pools and bodies, or the least refusal. The questions are asked one by one
+/// knows its classes, pools, bodies and Cooperators, or the least refusal. The questions are asked one by one
 /// only where the pass that asks all at once has failed.
 fn accept(json: &Json, draft: &Draft) -> Result<(), ScriptFault>
     ensures { Accepts (view json.now) draft.now result }
@@ -134,18 +160,22 @@ fn accept(json: &Json, draft: &Draft) -> Result<(), ScriptFault>
     if !have_bodies(sound, json, draft) {
         return Err(ScriptFault::BadBody);
     }
+    if !have_cooperators(sound, json, draft) {
+        return Err(ScriptFault::BadCooperator);
+    }
     Ok(())
 }
 
 /// The script that a JSON value is, or the least refusal.
-#[tactic(auto, using(crate::proofs::Accepted::accepted, crate::proofs::Accepted::refused))]
+#[tactic(auto, using(crate::proofs::Accepted::accepted, crate::proofs::Accepted::refused, crate::proofs::Accepted::unshaped))]
 fn judge(alloc: Global, json: &Json) -> Result<Script, ScriptFault>
     ensures { Judged (view json.now) result }
 {
     if !is_version(json) {
         return Err(ScriptFault::BadVersion);
     }
-    let draft = shape(alloc, json)?;
+    let expands = adds_few_nodes(json);
+    let draft = shape(alloc, expands, json)?;
     match accept(json, &draft) {
         Ok(()) => Ok(draft.into_script()),
         Err(fault) => {

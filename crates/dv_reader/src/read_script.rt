@@ -14,7 +14,7 @@ pub trait ReadScript: Sized {
 
     /// Reads a script, a JSON text in UTF-8. Where several reasons to refuse it hold, the answer is
     /// the least; of a key that is given twice the last value counts. It takes time and memory in
-    /// proportion to the text.
+    /// proportion to the text, in which repeats are written out.
     fn read(alloc: Global, bytes: &[u8]) -> Result<Self, ScriptFault>
         ensures ok { IfOk result (λ read. IsSaidBy bytes.now read) }
         ensures err { IfErr result (λ fault. Refuses fault bytes.now) };

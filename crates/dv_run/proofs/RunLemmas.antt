@@ -59,6 +59,8 @@ after_script input old bytes script.BadPool front refused =
     refused_as input old bytes script.BadPool front refused (λ e. cc)
 after_script input old bytes script.BadBody front refused =
     refused_as input old bytes script.BadBody front refused (λ e. cc)
+after_script input old bytes script.BadCooperator front refused =
+    refused_as input old bytes script.BadCooperator front refused (λ e. cc)
 
 -- a script that isn't performed on allocation failure: nothing was written
 pub after_perform : (input old : Told) → GivesUp OutOfMemory input old old
@@ -110,6 +112,7 @@ reader_after_script script.BadClass old new kept = kept
 reader_after_script script.OutOfMemory old new kept = kept
 reader_after_script script.BadPool old new kept = kept
 reader_after_script script.BadBody old new kept = kept
+reader_after_script script.BadCooperator old new kept = kept
 
 -- nor has the writer
 writer_after_script : (fault : ScriptFault) (old : ℕ) → WriterFailedBy (of_script fault) old old
@@ -124,6 +127,7 @@ writer_after_script script.BadClass old = refl
 writer_after_script script.OutOfMemory old = refl
 writer_after_script script.BadPool old = refl
 writer_after_script script.BadBody old = refl
+writer_after_script script.BadCooperator old = refl
 
 -- where a print failed, the reader hasn't failed
 pub reader_after_print : (fault : PrintFault) (old new : ℕ) → new ≡ old → ReaderFailedBy (of_print fault) old new
@@ -163,6 +167,7 @@ left_after_script script.BadClass input rest read = read
 left_after_script script.OutOfMemory input rest read = some_read input rest read
 left_after_script script.BadPool input rest read = read
 left_after_script script.BadBody input rest read = read
+left_after_script script.BadCooperator input rest read = read
 
 -- and where it isn't performed, or isn't printed
 pub left_after_perform : (input rest : Told) → HasRead input rest → LeavesAfter OutOfMemory input rest

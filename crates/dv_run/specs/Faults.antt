@@ -25,6 +25,7 @@ of_script script.BadClass = ScriptRefused script.BadClass
 of_script script.OutOfMemory = OutOfMemory
 of_script script.BadPool = ScriptRefused script.BadPool
 of_script script.BadBody = ScriptRefused script.BadBody
+of_script script.BadCooperator = ScriptRefused script.BadCooperator
 
 -- a writer that failed is a write fault, and out of memory stays that
 abbrev pub of_print : PrintFault → RunFault

@@ -62,7 +62,8 @@ impl From<ScriptFault> for RunFault {
             | ScriptFault::BadName
             | ScriptFault::BadClass
             | ScriptFault::BadPool
-            | ScriptFault::BadBody => RunFault::ScriptRefused(refusal),
+            | ScriptFault::BadBody
+            | ScriptFault::BadCooperator => RunFault::ScriptRefused(refusal),
             ScriptFault::OutOfMemory => RunFault::OutOfMemory,
         }
     }

@@ -100,6 +100,13 @@ pub enum Action {
     Units(u32),
     /// Makes a task of the bodies (Twisted: `cooperate`).
     Cooperate(Text, Items<Body>),
+    /// Makes a task of the bodies in the Cooperator that is named second (Twisted:
+    /// `Cooperator.cooperate`).
+    CooperateIn(Text, Text, Items<Body>),
+    /// As `Units`, of the Cooperator of this name.
+    UnitsIn(Text, u32),
+    /// Stops the Cooperator of this name (Twisted: `Cooperator.stop`).
+    StopCooperator(Text),
     /// Makes the Deferred that is fired when the task, named second, ends (Twisted:
     /// `CooperativeTask.whenDone`).
     WhenDone(Text, Text),

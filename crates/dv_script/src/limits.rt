@@ -32,6 +32,9 @@ pub const MOST_BODIES: usize = 256;
 /// The largest place in a list that a script names.
 pub const MOST_PLACE: u32 = 1_000_000;
 
+/// The most Cooperators that a script names.
+pub const MOST_COOPERATORS: usize = 256;
+
 /// The most callers of a script.
 pub const MOST_CALLERS: u32 = 8;
 

@@ -46,7 +46,7 @@ fn is_same(first: &Value, second: &Value) -> bool
         Value::Int(n) => is_int(*n, second),
         Value::Text(text) => is_text(text, second),
         Value::List(values) => match second {
-            Value::List(others) => are_same(values.as_slice(), others.as_slice()),
+            Value::List(others) => are_same(values.get().as_slice(), others.get().as_slice()),
             Value::Null | Value::Bool(_) | Value::Int(_) | Value::Text(_) | Value::Fault(_) =>
                 false,
         },

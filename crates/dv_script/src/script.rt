@@ -13,6 +13,13 @@ pub struct Cooperator {
     pub delay: u64,
 }
 
+/// A Cooperator that a script declares by its name, beside the one that each script has.
+#[derive(Drop)]
+pub struct NamedCooperator {
+    pub name: Text,
+    pub settings: Cooperator,
+}
+
 /// A pool beside the default one (Twisted: a `ThreadPool`).
 #[derive(Drop)]
 pub struct NamedPool {
@@ -36,6 +43,8 @@ pub struct Script {
     /// The most that its journal may weigh, up to 200,000.
     pub limit: u64,
     pub cooperator: Cooperator,
+    /// The Cooperators that it names, in order.
+    pub cooperators: Items<NamedCooperator>,
     /// The pools that it names, in order.
     pub pools: Items<NamedPool>,
     /// The bodies that it names, in order.

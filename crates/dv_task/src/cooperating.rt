@@ -2,10 +2,11 @@ ghost use Rattle.std.specs.Prelude.{◌≡◌, ◌++◌, OnOk};
 ghost use Rattle.dv_frames.specs.Bounds.{Bounded};
 ghost use Rattle.dv_definition.specs.Definition as page;
 ghost use Rattle.dv_definition.specs.Rule.{after, ◌next◌};
-ghost use Rattle.dv_definition.specs.Steps.{KeepTick, NewTask};
-ghost use Rattle.dv_definition.specs.Words.{finished, is_over, on_task};
+ghost use Rattle.dv_definition.specs.Steps.{KeepTick, NewTask, SetUnitsIn};
+ghost use Rattle.dv_definition.specs.Words.{finished, is_over, on_cooperator, on_task};
 ghost use Rattle.dv_objects.specs.declared.performed.Performed.TheVariants.{Done, Awaits};
 
+use dv_clock::cooperator_id::CooperatorId;
 use dv_clock::task_id::TaskId;
 use dv_frames::following::{fire_and_settle, whole};
 use dv_frames::frame::Frame;
@@ -30,11 +31,107 @@ pub fn cooperate<'s>(
     bodies: BodiesRef<'s>,
 ) -> Result<(), AllocError>
     requires done { turn.old.performed ≡ Done }
-    ensures { OnOk result
-        (turn.new ≡ after (NewTask name.entry bodies.entry next KeepTick next finished) turn.old) }
+    ensures { OnOk result (turn.new
+        ≡ after (NewTask name.entry bodies.entry next KeepTick 0 next finished) turn.old) }
 {
     turn.world.make_task(name, bodies)?;
-    turn.world.keep_tick()
+    turn.world.keep_tick(CooperatorId::new(0))
+}
+
+/// Makes a task in a Cooperator that the script names (Twisted: `Cooperator.cooperate`).
+pub fn cooperate_in<'s>(
+    turn: &mut Turn<'s>,
+    name: TextRef<'s>,
+    called: &str,
+    bodies: BodiesRef<'s>,
+) -> Result<(), AllocError>
+    requires done { turn.old.performed ≡ Done }
+    ensures { OnOk result (turn.new ≡ after (on_cooperator called.now
+        λ k. page.cooperate_in k name.entry called.now bodies.entry) turn.old) }
+{
+    let Some(of) = turn.find_cooperator(called)? else {
+        return Ok(());
+    };
+    let task = turn.world.next_task()?;
+    turn.world.make_task_in(of, name, called, bodies)?;
+    end_joining(turn, of, task)
+}
+
+/// Each tick of a Cooperator that the script names has so many steps from the next one on (Twisted:
+/// `Cooperator`, its `terminationPredicateFactory`).
+pub fn set_units_in<'s>(turn: &mut Turn<'s>, name: &str, units: u32) -> Result<(), AllocError>
+    requires done { turn.old.performed ≡ Done }
+    ensures { OnOk result (turn.new ≡ after (on_cooperator name.now
+        λ k. SetUnitsIn k name.now units next finished) turn.old) }
+{
+    let Some(of) = turn.find_cooperator(name)? else {
+        return Ok(());
+    };
+    turn.world.set_units_in(of, name, units)
+}
+
+/// Stops a Cooperator that the script names, and ends its tasks that take turns, in order (Twisted:
+/// `Cooperator.stop`).
+pub fn stop_cooperator<'s>(turn: &mut Turn<'s>, name: &str) -> Result<(), AllocError>
+    requires done { turn.old.performed ≡ Done }
+    ensures { OnOk result
+        (turn.new ≡ after (on_cooperator name.now (page.stop_cooperator name.now)) turn.old) }
+{
+    let Some(of) = turn.find_cooperator(name)? else {
+        return Ok(());
+    };
+    halt(turn, of, name)
+}
+
+/// Stops a Cooperator, and ends its tasks that take turns, in order.
+fn halt<'s>(turn: &mut Turn<'s>, of: CooperatorId, name: &str) -> Result<(), AllocError>
+    requires done { turn.old.performed ≡ Done }
+    ensures { OnOk result (turn.new ≡ after (page.stop_cooperator name.now of) turn.old) }
+{
+    let Some(one) = turn.world.cooperator(of) else {
+        return Ok(());
+    };
+    let tasks = one.turns.to_items(turn.alloc)?;
+    turn.world.halt(of, name)?;
+    halt_all(&mut turn.stack, tasks.as_slice())
+}
+
+/// Each of these tasks is to end, in order, since its Cooperator was stopped.
+fn halt_all<'s>(stack: &mut Frames<'s>, tasks: &[TaskId]) -> Result<(), AllocError>
+    ensures { OnOk result (stack.new ≡ page.halt_all tasks.now ++ stack.old) }
+{
+    for place in (0..tasks.len()).rev() {
+        stack.push(Frame::Halt(tasks[place]))?;
+    }
+    Ok(())
+}
+
+/// Ends a task with SchedulerStopped, unless it is paused or has ended.
+pub fn halt_task<'s>(turn: &mut Turn<'s>, task: TaskId) -> Result<(), AllocError>
+    requires done { turn.old.performed ≡ Done }
+    ensures { OnOk result (turn.new ≡ after (page.halt_task task) turn.old) }
+{
+    let Some(found) = turn.world.task(task) else {
+        return Ok(());
+    };
+    if found.pauses != 0 {
+        return Ok(());
+    }
+    end(turn, task, TaskEnd::Halted)
+}
+
+/// A task has joined a Cooperator: it takes turns there, and in one that was stopped it ends.
+fn end_joining<'s>(turn: &mut Turn<'s>, of: CooperatorId, task: TaskId) -> Result<(), AllocError>
+    requires done { turn.old.performed ≡ Done }
+    ensures { OnOk result (turn.new ≡ after (page.joined_in of task) turn.old) }
+{
+    let Some(one) = turn.world.cooperator(of) else {
+        return Ok(());
+    };
+    if one.stopped {
+        return halt_task(turn, task);
+    }
+    turn.world.keep_tick(of)
 }
 
 /// Makes a Deferred that is fired when a task ends, which is given by its name (Twisted:
@@ -104,8 +201,9 @@ fn pause<'s>(turn: &mut Turn<'s>, task: TaskId) -> Result<(), AllocError>
             Ok(())
         };
     }
+    let of = found.of;
     turn.world.pause_task(task)?;
-    turn.world.keep_tick()
+    turn.world.keep_tick(of)
 }
 
 /// Resumes a task by its name (Twisted: `CooperativeTask.resume`).
@@ -131,8 +229,9 @@ fn resume<'s>(turn: &mut Turn<'s>, task: TaskId) -> Result<(), AllocError>
         turn.performed = not_paused(turn.alloc)?;
         return Ok(());
     }
+    let of = found.of;
     turn.world.resume_task(task)?;
-    turn.world.keep_tick()
+    end_joining(turn, of, task)
 }
 
 /// Stops a task by its name (Twisted: `CooperativeTask.stop`).
@@ -168,9 +267,14 @@ fn end<'s>(turn: &mut Turn<'s>, task: TaskId, end: TaskEnd) -> Result<(), AllocE
     requires done { turn.old.performed ≡ Done }
     ensures { OnOk result (turn.new ≡ after (page.end_task task end) turn.old) }
 {
+    let Some(found) = turn.world.task(task) else {
+        drop(end);
+        return Ok(());
+    };
+    let of = found.of;
     let waiting = turn.world.end_task(task, end)?;
     notify_all(&mut turn.stack, task, waiting.as_slice())?;
-    turn.world.keep_tick()
+    turn.world.keep_tick(of)
 }
 
 /// Each Deferred that waits for the end of a task is to be fired, in order.
@@ -252,8 +356,12 @@ fn hold<'s>(turn: &mut Turn<'s>, task: TaskId, id: DeferredId) -> Result<(), All
     requires done { turn.old.performed ≡ Done }
     ensures { OnOk result (turn.new ≡ after (page.after_step task (Awaits id)) turn.old) }
 {
+    let Some(found) = turn.world.task(task) else {
+        return Ok(());
+    };
+    let of = found.of;
     turn.world.hold_task(task, id)?;
-    turn.world.keep_tick()?;
+    turn.world.keep_tick(of)?;
     turn.stack.push(Frame::Add(id, Pair::resuming(task)))
 }
 
@@ -267,27 +375,31 @@ fn has_ended<'s>(world: &World<'s>, task: TaskId) -> bool
     }
 }
 
-/// Goes on with a tick: takes a step, while one is left and a task takes turns; else the next tick
-/// is scheduled.
-pub fn go_on_ticking<'s>(turn: &mut Turn<'s>, units: u32) -> Result<(), AllocError>
+/// Goes on with a tick of a Cooperator: takes a step, while one is left and a task takes turns; else
+/// the next tick is scheduled.
+pub fn go_on_ticking<'s>(
+    turn: &mut Turn<'s>,
+    of: CooperatorId,
+    units: u32,
+) -> Result<(), AllocError>
     requires done { turn.old.performed ≡ Done }
-    ensures { OnOk result (turn.new ≡ after (page.tick units) turn.old) }
+    ensures { OnOk result (turn.new ≡ after (page.tick of units) turn.old) }
 {
     match units.checked_sub(1) {
-        None => end_tick(turn),
-        Some(left) => take_step(turn, left),
+        None => end_tick(turn, of),
+        Some(left) => take_step(turn, of, left),
     }
 }
 
 /// A step is taken, and then so many more.
-fn take_step<'s>(turn: &mut Turn<'s>, left: u32) -> Result<(), AllocError>
+fn take_step<'s>(turn: &mut Turn<'s>, of: CooperatorId, left: u32) -> Result<(), AllocError>
     requires done { turn.old.performed ≡ Done }
-    ensures { OnOk result (turn.new ≡ after (page.step_of_tick left) turn.old) }
+    ensures { OnOk result (turn.new ≡ after (page.step_of_tick of left) turn.old) }
 {
-    match turn.world.take_step()? {
-        None => end_tick(turn),
+    match turn.world.take_step(of)? {
+        None => end_tick(turn, of),
         Some((task, body)) => {
-            turn.stack.push(Frame::Tick(left))?;
+            turn.stack.push(Frame::Tick(of, left))?;
             begin_step(turn, task, body)
         }
     }
@@ -312,11 +424,25 @@ fn begin_step<'s>(
     }
 }
 
-/// No step is left in a tick.
-fn end_tick(turn: &mut Turn<'_>) -> Result<(), AllocError>
+/// No step is left in a tick of a Cooperator.
+fn end_tick(turn: &mut Turn<'_>, of: CooperatorId) -> Result<(), AllocError>
     requires done { turn.old.performed ≡ Done }
-    ensures { OnOk result (turn.new ≡ after page.tick_ended turn.old) }
+    ensures { OnOk result (turn.new ≡ after (page.tick_ended of) turn.old) }
 {
-    turn.world.end_tick();
-    turn.world.keep_tick()
+    turn.world.end_tick(of);
+    turn.world.keep_tick(of)
+}
+
+/// A tick of a Cooperator is due: its steps are to be taken. What is due after it lies on the stack
+/// already.
+pub fn begin_tick(turn: &mut Turn<'_>, of: CooperatorId) -> Result<(), AllocError>
+    requires done { turn.old.performed ≡ Done }
+    ensures { OnOk result (turn.new ≡ after (page.begin_tick of) turn.old) }
+{
+    let Some(one) = turn.world.cooperator(of) else {
+        return Ok(());
+    };
+    let units = one.units;
+    turn.world.begin_tick(of);
+    turn.stack.push(Frame::Tick(of, units))
 }

@@ -11,7 +11,7 @@ use Rattle.std.specs.List.{position_or_len}
 use Rattle.std.proofs.Math.Path.{sym, ◌∙◌}
 use Rattle.std.specs.Str.{bytes_eq}
 use Rattle.dv_value.specs.declared.classes.Class.{Class}
-use Rattle.dv_value.specs.Builtin.{builtin}
+use Rattle.dv_value.specs.Builtin.{builtin, later_builtin}
 use Rattle.dv_value.specs.Classes.{find_class, name_of}
 use Rattle.dv_value.specs.Laws.{IsFirstOf, FindsTheFirst, NamesAreDistinct}
 
@@ -84,3 +84,9 @@ unfolding builtin all_found is_at
 builtin_names_are_distinct c within =
     let same : 0 + c ≡ c = omega arith in
     found_in_place builtin builtin 0 c refl within ∙ ap Some same
+
+pub later_names_are_distinct : NamesAreDistinct later_builtin
+unfolding builtin all_found is_at
+later_names_are_distinct c within =
+    let same : 0 + c ≡ c = omega arith in
+    found_in_place later_builtin later_builtin 0 c refl within ∙ ap Some same

@@ -4,7 +4,7 @@ use Rattle.std.proofs.Common.{◌++◌, Option, None, Some, length, refl, arith,
 use Rattle.std.specs.Option.{option_map_or}
 use Rattle.std.proofs.lemmas.Bool.{and_parts, ltb-true}
 use Rattle.dv_value.specs.declared.classes.Class.{Class}
-use Rattle.dv_value.specs.Builtin.{builtin}
+use Rattle.dv_value.specs.Builtin.{builtin, later_builtin}
 use Rattle.dv_value.specs.Classes.{path, path_within, parent_of}
 use Rattle.dv_value.specs.Laws.{ParentsStandBefore, PathsGoUp, DeclaredClassesKeepTheOrder}
 use Rattle.dv_value.proofs.Names.{found_is_first}
@@ -75,6 +75,13 @@ builtin_ordered c p e = omega (arith, all_stand_before builtin 0 c p refl e)
 
 pub builtin_paths_go_up : PathsGoUp builtin
 builtin_paths_go_up = paths_go_up builtin builtin_ordered
+
+pub later_ordered : ParentsStandBefore later_builtin
+unfolding builtin all_before before
+later_ordered c p e = omega (arith, all_stand_before later_builtin 0 c p refl e)
+
+pub later_paths_go_up : PathsGoUp later_builtin
+later_paths_go_up = paths_go_up later_builtin later_ordered
 
 -- a parent in a table with one class more is one of the table, or that of the last class
 parent_in_longer : (table : List Class) (last : Class) (c p : ℕ) → parent_of (table ++ last ∷ []) c ≡ Some p

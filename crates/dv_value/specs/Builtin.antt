@@ -70,6 +70,10 @@ task_failed = 19
 abbrev pub timeout_error : ℕ
 timeout_error = 20
 
+-- it stands in the tables of later scripts alone
+abbrev pub scheduler_stopped : ℕ
+scheduler_stopped = 21
+
 -- the names of those right below the root
 abbrev pub of_exception : List (List ℕ)
 of_exception =
@@ -88,3 +92,7 @@ builtin =
     ++ children_of (Some scheduler_error) (codes "TaskFinished" ∷ codes "NotPaused" ∷ [])
     ++ children_of (Some task_finished) (codes "TaskDone" ∷ codes "TaskStopped" ∷ codes "TaskFailed" ∷ [])
     ++ children_of (Some exception) (codes "TimeoutError" ∷ [])
+
+-- the classes that each later script has: one more, at the end
+abbrev pub later_builtin : List Class
+later_builtin = builtin ++ children_of (Some scheduler_error) (codes "SchedulerStopped" ∷ [])

@@ -6,7 +6,7 @@ use Rattle.dv_value.specs.Classes.{parent_of, path, find_class, name_of}
 use Rattle.dv_value.specs.Declaring.{with_class}
 use Rattle.dv_value.specs.Builtin.{builtin, type_error, name_error, assertion_error, overflow_error}
 use Rattle.dv_value.specs.Builtin.{already_called_error, cancelled_error, first_error, queue_overflow, queue_underflow}
-use Rattle.dv_value.specs.Builtin.{timeout_error}
+use Rattle.dv_value.specs.Builtin.{timeout_error, scheduler_stopped, later_builtin}
 
 -- each class's parent stands before it
 abbrev pub ParentsStandBefore : List Class → Type 0
@@ -38,6 +38,7 @@ pub record BuiltinsHaveTheirPlaces : Type 0 where
   pub queue_overflow : find_class (codes "QueueOverflow") builtin ≡ Some queue_overflow
   pub queue_underflow : find_class (codes "QueueUnderflow") builtin ≡ Some queue_underflow
   pub timeout_error : find_class (codes "TimeoutError") builtin ≡ Some timeout_error
+  pub scheduler_stopped : find_class (codes "SchedulerStopped") later_builtin ≡ Some scheduler_stopped
 
 -- the place of the first class of this name
 pub record IsFirstOf (name : List ℕ) (table : List Class) (c : ℕ) : Type 0 where

@@ -64,6 +64,9 @@ impl ClassId {
     /// What a cancel by a timer results in, in place of `CANCELLED_ERROR` (Twisted:
     /// `error.TimeoutError`).
     pub const TIMEOUT_ERROR: ClassId = ClassId { place: 20 };
+    /// For a cooperative task whose Cooperator was stopped, in a table that has it (Twisted:
+    /// `task.SchedulerStopped`).
+    pub const SCHEDULER_STOPPED: ClassId = ClassId { place: 21 };
 
     /// The class at this place, which need not be in any table.
     pub fn new(place: u32) -> ClassId

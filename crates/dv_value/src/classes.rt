@@ -39,7 +39,7 @@ impl Model for Classes {
 impl Classes {
     ghost use Rattle.std.specs.Prelude.{[], Some, None};
     ghost use Rattle.dv_value.specs.Classes.{name_of, parent_of, path_within, descends};
-    ghost use Rattle.dv_value.specs.Builtin.{children_of, builtin};
+    ghost use Rattle.dv_value.specs.Builtin.{children_of, builtin, later_builtin};
     ghost use Rattle.dv_value.specs.Declaring.{with_class, AnswersDeclare};
 
     /// The classes that every script has, each after its parent.
@@ -91,6 +91,21 @@ impl Classes {
             &mut classes,
             Some(ClassId::EXCEPTION),
             &["TimeoutError"],
+        )?;
+        Ok(Classes { alloc, classes })
+    }
+
+    /// The classes that every later script has: one more, at the end.
+    #[tactic(auto, unfolding(crate::specs::Builtin::builtin))]
+    pub fn later_builtin(alloc: Global) -> Result<Classes, AllocError>
+        ensures { IfOk result (λ table. table ≡ later_builtin) }
+    {
+        let Classes { alloc, mut classes } = Classes::builtin(alloc)?;
+        add_children(
+            alloc,
+            &mut classes,
+            Some(ClassId::SCHEDULER_ERROR),
+            &["SchedulerStopped"],
         )?;
         Ok(Classes { alloc, classes })
     }

@@ -68,11 +68,16 @@ impl<T> Items<T> {
 
 impl<T: Drop> Items<T> {
     /// Adds an item at the end. On allocation failure, the item is dropped and the others stay.
+    #[inline(always)]
     pub fn push(&mut self, item: T) -> Result<(), AllocError>
         ensures ok { OnOk result (self.new ≡ self.old ++ item ∷ []) }
         ensures err { OnErr result (self.new ≡ self.old) }
     {
-        self.items.push(item)?;
+        if self.items.reserve(1).is_err() {
+            drop(item);
+            return Err(AllocError);
+        }
+        self.items.push_reserved(item);
         Ok(())
     }
 }

@@ -11,6 +11,7 @@ pub mod fault;
 pub mod items;
 pub mod laws;
 pub mod plus;
+pub mod shared;
 pub mod stack;
 pub mod text;
 pub mod throw;

@@ -44,7 +44,7 @@ fn item_at(value: &Value, place: u32) -> Option<&Value>
     ensures { option_copied result ≡ item_at place (out-Value value.now) }
 {
     match value {
-        Value::List(values) => get(values.as_slice(), place),
+        Value::List(values) => get(values.get().as_slice(), place),
         Value::Null | Value::Bool(_) | Value::Int(_) | Value::Text(_) | Value::Fault(_) => None,
     }
 }

@@ -1,10 +1,12 @@
 ghost use Rattle.std.specs.Prelude.{◌≡◌, ◌^◌, ◌-◌, IfOk, map, min, sum};
 ghost use Rattle.dv_value.specs.Size.{size};
 ghost use Rattle.dv_value.specs.Failure.{is_fault, failure_in};
+ghost use Rattle.dv_value.specs.declared.value.Value.TheVariants.{List};
 
 use crate::boxed::Boxed;
 use crate::failure::Failure;
 use crate::items::Items;
+use crate::shared::Shared;
 use crate::text::Text;
 use std::alloc::{AllocError, Global};
 
@@ -15,12 +17,19 @@ pub enum Value {
     Bool(bool),
     Int(i64),
     Text(Text),
-    List(Items<Value>),
+    List(Shared<Items<Value>>),
     /// A Deferred of this value has failed.
     Fault(Boxed<Failure>),
 }
 
 impl Value {
+    /// A list of these.
+    pub fn list(alloc: Global, values: Items<Value>) -> Result<Value, AllocError>
+        ensures { IfOk result (λ v. v ≡ List values) }
+    {
+        Ok(Value::List(Shared::new(alloc, values)?))
+    }
+
     /// Whether a Deferred of this value has failed.
     pub fn is_fault(&self) -> bool
         ensures { result ≡ is_fault self.now }
@@ -41,8 +50,8 @@ impl Value {
         }
     }
 
-    /// A value that equals this one, in memory of its own.
-    #[cycle(copy)]
+    /// A value that equals this one. The members of a list are shared; a long text and a failure have
+    /// memory of their own.
     pub fn copy(&self, alloc: Global) -> Result<Value, AllocError>
         ensures { IfOk result (λ v. v ≡ self.now) }
     {
@@ -51,7 +60,7 @@ impl Value {
             Value::Bool(b) => Ok(Value::Bool(*b)),
             Value::Int(n) => Ok(Value::Int(*n)),
             Value::Text(text) => Ok(Value::Text(text.copy(alloc)?)),
-            Value::List(values) => Ok(Value::List(copy_all(alloc, values.as_slice())?)),
+            Value::List(values) => Ok(Value::List(values.share()?)),
             Value::Fault(failure) => Ok(Value::Fault(Boxed::new(
                 alloc,
                 failure.get().copy(alloc)?,
@@ -67,21 +76,10 @@ impl Value {
         match self {
             Value::Null | Value::Bool(_) | Value::Int(_) => 1,
             Value::Text(text) => (text.as_str().len() as u64).saturating_add(1),
-            Value::List(values) => size_all(values.as_slice()).saturating_add(1),
+            Value::List(values) => size_all(values.get().as_slice()).saturating_add(1),
             Value::Fault(failure) => failure.get().size(),
         }
     }
-}
-
-#[cycle(copy)]
-fn copy_all(alloc: Global, values: &[Value]) -> Result<Items<Value>, AllocError>
-    ensures { IfOk result (λ vs. vs ≡ values.now) }
-{
-    let mut copies = Items::new(alloc);
-    for value in values {
-        copies.push(value.copy(alloc)?)?;
-    }
-    Ok(copies)
 }
 
 #[cycle(size)]

@@ -145,7 +145,7 @@ pub fn write_json(
         Value::Int(n) => write_i64(out, *n),
         Value::Text(text) => write_string(alloc, out, text.as_str()),
         Value::List(values) => {
-            write_list(alloc, classes, out, values.as_slice())?;
+            write_list(alloc, classes, out, values.get().as_slice())?;
             Ok(())
         }
         Value::Fault(failure) => write_failure_json(alloc, classes, out, failure.get()),

@@ -1,10 +1,12 @@
 //! Texts and numbers at the end of a text, which costs less than the formatter. On allocation
 //! failure, it is left open what `out` holds.
 
-ghost use Rattle.std.specs.Prelude.{◌≡◌, ◌+◌, ◌/◌, ◌%◌, ◌++◌, [], ◌∷◌, OnOk, codes, string_bytes};
+ghost use Rattle.std.specs.Prelude.{◌≡◌, ◌+◌, ◌/◌, ◌%◌, ◌++◌, [], ◌∷◌, OnOk, codes};
+ghost use Rattle.std.specs.Prelude.{IsUtf8, string_bytes};
 ghost use Rattle.std.specs.Fmt.{decimal, signed_decimal};
 
 use std::alloc::AllocError;
+use std::str;
 
 /// Adds a text.
 #[inline(always)]
@@ -22,37 +24,85 @@ pub fn write_space(out: &mut String) -> Result<(), AllocError>
     out.push(' ')
 }
 
-/// Adds the last digit of a number.
+/// The sign of the last digit of a number.
 #[inline(always)]
-fn push_digit(out: &mut String, number: u64) -> Result<(), AllocError>
-    ensures { OnOk result (string_bytes out.new ≡ string_bytes out.old ++ (48 + number % 10) ∷ []) }
+fn last_digit(number: u64) -> u8
+    ensures { result ≡ 48 + number % 10 }
 {
-    out.push((b'0' + (number % 10) as u8) as char)
+    b'0' + (number % 10) as u8
+}
+
+/// Adds digits at once.
+#[inline(always)]
+fn push_digits(out: &mut String, digits: &[u8]) -> Result<(), AllocError>
+    requires { IsUtf8 digits.now }
+    ensures { OnOk result (string_bytes out.new ≡ string_bytes out.old ++ digits.now) }
+{
+    out.push_str(unsafe { str::from_utf8_unchecked(digits) })
 }
 
 /// Adds the last two digits of a number.
 #[inline(always)]
+#[tactic(auto, using(crate::proofs::DigitLemmas::two_are_text))]
 fn push_two_digits(out: &mut String, number: u64) -> Result<(), AllocError>
     ensures { OnOk result (string_bytes out.new
         ≡ string_bytes out.old ++ (48 + number / 10 % 10) ∷ (48 + number % 10) ∷ []) }
 {
-    push_digit(out, number / 10)?;
-    push_digit(out, number)
+    push_digits(out, &[last_digit(number / 10), last_digit(number)])
 }
 
-/// Adds a number in decimal.
-#[tactic(auto, using(crate::proofs::DigitLemmas::last_two, crate::proofs::DigitLemmas::only_two, crate::proofs::DigitLemmas::only_one))]
+/// Adds the last three digits of a number.
+#[inline(always)]
+#[tactic(auto, using(crate::proofs::DigitLemmas::three_are_text))]
+fn push_three_digits(out: &mut String, number: u64) -> Result<(), AllocError>
+    ensures { OnOk result (string_bytes out.new
+        ≡ string_bytes out.old
+        ++ (48 + number / 100 % 10) ∷ (48 + number / 10 % 10) ∷ (48 + number % 10) ∷ []) }
+{
+    let tens = number / 10;
+    push_digits(
+        out,
+        &[last_digit(tens / 10), last_digit(tens), last_digit(number)],
+    )
+}
+
+/// Adds the last four digits of a number.
+#[inline(always)]
+#[tactic(auto, using(crate::proofs::DigitLemmas::four_are_text))]
+fn push_four_digits(out: &mut String, number: u64) -> Result<(), AllocError>
+    ensures { OnOk result (string_bytes out.new
+        ≡ string_bytes out.old ++ (48 + number / 1000 % 10) ∷ (48 + number / 100 % 10)
+        ∷ (48 + number / 10 % 10) ∷ (48 + number % 10) ∷ []) }
+{
+    let tens = number / 10;
+    let hundreds = tens / 10;
+    let digits = [
+        last_digit(hundreds / 10),
+        last_digit(hundreds),
+        last_digit(tens),
+        last_digit(number),
+    ];
+    push_digits(out, &digits)
+}
+
+/// Adds a number in decimal, four digits at a time.
+#[tactic(auto, using(crate::proofs::DigitLemmas::last_four, crate::proofs::DigitLemmas::only_four, crate::proofs::DigitLemmas::only_three, crate::proofs::DigitLemmas::only_two, crate::proofs::DigitLemmas::only_one))]
 pub fn write_u64(out: &mut String, number: u64) -> Result<(), AllocError>
     ensures { OnOk result (string_bytes out.new ≡ string_bytes out.old ++ decimal number) }
 {
     if number < 10 {
-        return push_digit(out, number);
+        return out.push(last_digit(number) as char);
     }
     if number < 100 {
         return push_two_digits(out, number);
     }
-    write_u64(out, number / 100)?;
-    push_two_digits(out, number)
+    if number < 1000 {
+        return push_three_digits(out, number);
+    }
+    if number >= 10_000 {
+        write_u64(out, number / 10_000)?;
+    }
+    push_four_digits(out, number)
 }
 
 /// Adds a number in decimal.

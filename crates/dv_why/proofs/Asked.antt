@@ -25,7 +25,7 @@ use Rattle.dv_forms.specs.declared.want.PairKind.{PairKind}
 use Rattle.dv_forms.specs.declared.want.Item.{Item}
 use Rattle.dv_why.specs.declared.question.Question.{Question}
 use Rattle.dv_why.specs.declared.question.Question.TheVariants as question
-use Rattle.dv_forms.specs.declared.versions.TheConstants.{BODIES_SINCE}
+use Rattle.dv_forms.specs.declared.versions.TheConstants.{BODIES_SINCE, COOPERATORS_SINCE}
 use Rattle.dv_forms.specs.Wants.{key_want, keys_in, script_want, cooperator_want, body_want, failure_want}
 use Rattle.dv_why.specs.Fits.{first_other, is_other, suits}
 use Rattle.dv_why.specs.AllSuit.{AllSuit, all_suit, ItemsSuit, KnownSuit, OthersOf, OthersSuit, ValuesSuit}
@@ -175,6 +175,11 @@ cooperator_key P key all other =
 early : (version n : ℕ) → nat_eq version n ≡ true → nat_lt n BODIES_SINCE ≡ true → nat_lt version BODIES_SINCE ≡ true
 early version n is h = rw (eqb-true version n is) h
 
+-- and before that which may name Cooperators
+earlier : (version n : ℕ) → nat_eq version n ≡ true → nat_lt n COOPERATORS_SINCE ≡ true
+    → nat_lt version COOPERATORS_SINCE ≡ true
+earlier version n is h = rw (eqb-true version n is) h
+
 script_key : (P : List ℕ → Type 0) (version : ℕ) (b c : Bool) → nat_eq version 1 ≡ b → nat_eq version 2 ≡ c
     → (key : List ℕ) → EachKey P (keys_in (keyed.Script version))
     → (script_want version key ≡ want.Other (keyed.Script version) → P key)
@@ -183,6 +188,7 @@ script_key P version true c one two key all other =
     let rest : EachKey P (codes "classes" ∷ codes "callers" ∷ codes "events" ∷ codes "comment" ∷ []) =
     rw one at all.1.1.1 in
     let before : nat_lt version BODIES_SINCE ≡ true = early version 1 one refl in
+    let sooner : nat_lt version COOPERATORS_SINCE ≡ true = earlier version 1 one refl in
     either key (codes "version") (λ t e. subst P e all.0) (λ f0.
     either key (codes "events") (λ t e. subst P e rest.1.1.0) (λ f1.
     either key (codes "limit") (λ t e. subst P e all.1.0) (λ f2.
@@ -191,12 +197,14 @@ script_key P version true c one two key all other =
     either key (codes "callers") (λ t e. subst P e rest.1.0) (λ f5.
     either key (codes "pools") (λ t e. other (rw (f0, f1, f2, f3, f4, f5, t, one) refl)) (λ f6.
     either key (codes "bodies") (λ t e. other (rw (f0, f1, f2, f3, f4, f5, f6, t, before) refl)) (λ f7.
-    either key (codes "comment") (λ t e. subst P e rest.1.1.1.0) (λ f8.
-    other (rw (f0, f1, f2, f3, f4, f5, f6, f7, f8) refl))))))))))
+    either key (codes "cooperators") (λ t e. other (rw (f0, f1, f2, f3, f4, f5, f6, f7, t, sooner) refl)) (λ f8.
+    either key (codes "comment") (λ t e. subst P e rest.1.1.1.0) (λ f9.
+    other (rw (f0, f1, f2, f3, f4, f5, f6, f7, f8, f9) refl)))))))))))
 script_key P version false true one two key all other =
     let rest : EachKey P (codes "pools" ∷ codes "classes" ∷ codes "callers" ∷ codes "events" ∷ codes "comment" ∷ []) =
     rw (one, two) at all.1.1.1 in
     let before : nat_lt version BODIES_SINCE ≡ true = early version 2 two refl in
+    let sooner : nat_lt version COOPERATORS_SINCE ≡ true = earlier version 2 two refl in
     either key (codes "version") (λ t e. subst P e all.0) (λ f0.
     either key (codes "events") (λ t e. subst P e rest.1.1.1.0) (λ f1.
     either key (codes "limit") (λ t e. subst P e all.1.0) (λ f2.
@@ -205,21 +213,23 @@ script_key P version false true one two key all other =
     either key (codes "callers") (λ t e. subst P e rest.1.1.0) (λ f5.
     either key (codes "pools") (λ t e. subst P e rest.0) (λ f6.
     either key (codes "bodies") (λ t e. other (rw (f0, f1, f2, f3, f4, f5, f6, t, before) refl)) (λ f7.
-    either key (codes "comment") (λ t e. subst P e rest.1.1.1.1.0) (λ f8.
-    other (rw (f0, f1, f2, f3, f4, f5, f6, f7, f8) refl))))))))))
+    either key (codes "cooperators") (λ t e. other (rw (f0, f1, f2, f3, f4, f5, f6, f7, t, sooner) refl)) (λ f8.
+    either key (codes "comment") (λ t e. subst P e rest.1.1.1.1.0) (λ f9.
+    other (rw (f0, f1, f2, f3, f4, f5, f6, f7, f8, f9) refl)))))))))))
 script_key P version false false one two key all other =
-    let rest : EachKey P (codes "pools" ∷ codes "classes" ∷ codes "bodies" ∷ codes "callers" ∷ codes "events"
-    ∷ codes "comment" ∷ []) = rw (one, two) at all.1.1.1 in
+    let rest : EachKey P (codes "cooperators" ∷ codes "pools" ∷ codes "classes" ∷ codes "bodies" ∷ codes "callers"
+    ∷ codes "events" ∷ codes "comment" ∷ []) = rw (one, two) at all.1.1.1 in
     either key (codes "version") (λ t e. subst P e all.0) (λ f0.
-    either key (codes "events") (λ t e. subst P e rest.1.1.1.1.0) (λ f1.
+    either key (codes "events") (λ t e. subst P e rest.1.1.1.1.1.0) (λ f1.
     either key (codes "limit") (λ t e. subst P e all.1.0) (λ f2.
-    either key (codes "classes") (λ t e. subst P e rest.1.0) (λ f3.
+    either key (codes "classes") (λ t e. subst P e rest.1.1.0) (λ f3.
     either key (codes "cooperator") (λ t e. subst P e all.1.1.0) (λ f4.
-    either key (codes "callers") (λ t e. subst P e rest.1.1.1.0) (λ f5.
-    either key (codes "pools") (λ t e. subst P e rest.0) (λ f6.
-    either key (codes "bodies") (λ t e. subst P e rest.1.1.0) (λ f7.
-    either key (codes "comment") (λ t e. subst P e rest.1.1.1.1.1.0) (λ f8.
-    other (rw (f0, f1, f2, f3, f4, f5, f6, f7, f8) refl))))))))))
+    either key (codes "callers") (λ t e. subst P e rest.1.1.1.1.0) (λ f5.
+    either key (codes "pools") (λ t e. subst P e rest.1.0) (λ f6.
+    either key (codes "bodies") (λ t e. subst P e rest.1.1.1.0) (λ f7.
+    either key (codes "cooperators") (λ t e. subst P e rest.0) (λ f8.
+    either key (codes "comment") (λ t e. subst P e rest.1.1.1.1.1.1.0) (λ f9.
+    other (rw (f0, f1, f2, f3, f4, f5, f6, f7, f8, f9) refl)))))))))))
 
 -- a key is one that the object may have, or its value is another
 pub known_key : (P : List ℕ → Type 0) (k : Keyed) (key : List ℕ) → EachKey P (keys_in k)
@@ -266,6 +276,8 @@ other_wants (question.Pools ps) w (want.Other k) d e ow ou h = refl
 other_wants (question.Pools ps) w u d e ow ou h = cc
 other_wants (question.Bodies bs) w (want.Other k) d e ow ou h = refl
 other_wants (question.Bodies bs) w u d e ow ou h = cc
+other_wants (question.Cooperators cs) w (want.Other k) d e ow ou h = refl
+other_wants (question.Cooperators cs) w u d e ow ou h = cc
 
 all_other : (q : Question) (u : Want) (e : Data) → is_other u ≡ true → suits q u e ≡ true → AllSuit q u e
 all_other q (want.Other k) e ou h = other_suits q k e h

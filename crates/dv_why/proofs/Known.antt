@@ -13,22 +13,25 @@ use Rattle.serde_json.specs.Data.{Data, string, Items, no_items, item, depth}
 use Rattle.serde_json.specs.Find.{as_array, as_object, as_str, get, get_member}
 use Rattle.dv_value.specs.declared.classes.Class.{Class}
 use Rattle.dv_script.specs.declared.script.NamedBody.{NamedBody}
+use Rattle.dv_script.specs.declared.script.NamedCooperator.{NamedCooperator}
 use Rattle.dv_script.specs.declared.script.NamedPool.{NamedPool}
 use Rattle.dv_script.specs.declared.limits.TheConstants.{MOST_CLASSES, MOST_LEVELS}
 use Rattle.dv_forms.specs.Forms.{Each, IsList, Field}
 use Rattle.dv_grammar.specs.declared.draft.Draft.{Draft}
-use Rattle.dv_grammar.specs.Grammar.{IsNamedBody, names_body, IsPool, pools, IsScript}
+use Rattle.dv_grammar.specs.Grammar.{IsNamedBody, names_body, IsPool, pools, IsScript, IsNamedCooperator}
+use Rattle.dv_grammar.specs.Grammar.{names_cooperator}
 use Rattle.dv_grammar.proofs.Steps.{some_injective}
 use Rattle.dv_questions.specs.Questions.{Asked, words, names, classes, pools as pools_asked, is_known, is_pool}
 use Rattle.dv_questions.specs.Questions.{is_among, object_stands, stands, bodies as bodies_asked, is_body, has_body}
-use Rattle.dv_questions.specs.Questions.{has_object}
-use Rattle.dv_forms.specs.declared.versions.TheConstants.{BODIES_SINCE, COMMENTS_SINCE}
+use Rattle.dv_questions.specs.Questions.{has_object, cooperators as cooperators_asked, is_cooperator, has_cooperator}
+use Rattle.dv_forms.specs.declared.versions.TheConstants.{BODIES_SINCE, COMMENTS_SINCE, COOPERATORS_SINCE}
 use Rattle.dv_forms.specs.declared.want.Leaf.{Leaf}
 use Rattle.dv_forms.specs.declared.want.Leaf.TheVariants as leaf
 use Rattle.dv_forms.specs.declared.want.Object.TheVariants as object_of
 use Rattle.dv_reader.specs.Limits.{is_small}
 use Rattle.dv_reader.specs.Refusal.{answers, are_named, are_known, are_distinct, are_pooled, have_own_names}
-use Rattle.dv_reader.specs.Refusal.{have_bodies}
+use Rattle.dv_reader.specs.Refusal.{have_bodies, are_apart, have_cooperators}
+use Rattle.dv_reader.specs.declared.error.ScriptFault.TheVariants.{BadCooperator}
 use Rattle.dv_reader.specs.declared.error.ScriptFault.TheVariants.{BadShape, BadName, BadClass, BadPool, BadBody}
 use Rattle.dv_why.specs.Fits.{fits, has_keys, is_declared, leaf_fits}
 use Rattle.dv_why.specs.declared.question.Question.{Question}
@@ -39,10 +42,10 @@ use Rattle.serde_json.specs.View.{items_view}
 use Rattle.serde_json.specs.declared.value.Value.{Value}
 use Rattle.dv_why.specs.Declaring.{AllMayDeclare, table_in}
 use Rattle.dv_why.specs.Documents.{or_no_items, list_in, name_in, script_in, version_in, AreDistinct, PoolsDistinct}
-use Rattle.dv_why.specs.Documents.{BodiesDistinct}
+use Rattle.dv_why.specs.Documents.{BodiesDistinct, CooperatorsDistinct}
 use Rattle.dv_why.specs.Finds.{Misfits}
 use Rattle.dv_why.specs.Reasons.{IsRefusedFor}
-use Rattle.dv_why.specs.Wrong.{IsMisshaped, IsMisnamed, IsBadClass, IsBadPool, IsBadBody}
+use Rattle.dv_why.specs.Wrong.{IsMisshaped, IsMisnamed, IsBadClass, IsBadPool, IsBadBody, IsBadCooperator}
 use Rattle.dv_why.specs.declared.misfit.Misfit.{Misfit}
 use Rattle.dv_forms.specs.declared.want.Want.TheVariants as want
 use Rattle.dv_forms.specs.declared.want.Keyed.{Keyed}
@@ -51,9 +54,9 @@ use Rattle.dv_why.proofs.Parts.{both}
 use Rattle.dv_why.proofs.Texts.{Tells, texts_suit}
 use Rattle.dv_why.proofs.Reading.{script_fine}
 use Rattle.dv_why.proofs.GivenNames.{declared_one}
-use Rattle.dv_why.proofs.Versions.{early_has_no_bodies, first_has_no_pools, same_version}
+use Rattle.dv_why.proofs.Versions.{early_has_no_bodies, early_has_no_cooperators, first_has_no_pools, same_version}
 use Rattle.dv_why.proofs.Suits.{IsOfBodies, IsOfClasses, IsOfPools, misnamed, misused_body, misused_class}
-use Rattle.dv_why.proofs.Suits.{misused_pool}
+use Rattle.dv_why.proofs.Suits.{misused_pool, IsOfCooperators, misused_cooperator}
 use Rattle.dv_why.proofs.Tables.{tables_same}
 
 -- where each part answers well, each text does
@@ -89,6 +92,7 @@ classes_asked (question.Classes given) d table of same =
     }
 classes_asked (question.Pools ps) d table of same = absurd of
 classes_asked (question.Bodies bs) d table of same = absurd of
+classes_asked (question.Cooperators cs) d table of same = absurd of
 
 few_declared : (d : Data) (draft : Draft) → is_small d draft ≡ true → length draft.declared ≤ MOST_CLASSES
 few_declared d draft h =
@@ -97,19 +101,21 @@ few_declared d draft h =
     let c = and_parts _ _ b.0 in
     let e = and_parts _ _ c.0 in
     let f = and_parts _ _ e.0 in
-    leb-true (length draft.declared) MOST_CLASSES (and_parts _ _ f.0).1
+    let i = and_parts _ _ f.0 in
+    leb-true (length draft.declared) MOST_CLASSES (and_parts _ _ i.0).1
 
 -- a script in which each class may be declared and each that is used is in the table knows its classes
 pub classes_good : (q : Question) (d : Data) (draft : Draft) → IsOfClasses d q
-    → AllMayDeclare (list_in (codes "classes") d) → IsScript d draft → is_small d draft ≡ true
+    → AllMayDeclare (version_in d) (list_in (codes "classes") d) → IsScript d draft → is_small d draft ≡ true
     → AllSuit q (script_in d) d → are_known d draft ≡ true
 classes_good q d draft of may g small h =
     let value : get (codes "classes") d ≡ get_member (codes "classes") g.members = ap (get (codes "classes")) g.whole in
-    let may_so : AllMayDeclare (or_no_items (option_and_then as_array (get_member (codes "classes") g.members))) =
-    rw value at may in
-    let same = tables_same (get_member (codes "classes") g.members) draft.declared g.declared
+    let may_so : AllMayDeclare draft.version
+    (or_no_items (option_and_then as_array (get_member (codes "classes") g.members))) =
+    rw (value, same_version d draft g) at may in
+    let same = tables_same draft.version (get_member (codes "classes") g.members) draft.declared g.declared
     (few_declared d draft small) may_so in
-    let table : table_in d ≡ draft.script.classes = rw value (sym same.1 ∙ sym g.table) in
+    let table : table_in d ≡ draft.script.classes = rw (value, same_version d draft g) (sym same.1 ∙ sym g.table) in
     both (g.all_declared ∙ same.0) (answered d draft (classes_asked q d draft.script.classes of table) g h)
 
 -- ---- pools
@@ -198,6 +204,7 @@ pools_tell (question.Shape version) d draft of g = absurd of
 pools_tell (question.Names version) d draft of g = absurd of
 pools_tell (question.Classes given) d draft of g = absurd of
 pools_tell (question.Bodies bs) d draft of g = absurd of
+pools_tell (question.Cooperators cs) d draft of g = absurd of
 pools_tell (question.Pools ps) d draft of g = record {
   leaf =
       λ l x h. or_also (not (is_pool l)) (is_declared ps.now x) (is_among x draft.script.pools)
@@ -266,6 +273,7 @@ bodies_tell (question.Shape version) d draft of g = absurd of
 bodies_tell (question.Names version) d draft of g = absurd of
 bodies_tell (question.Classes given) d draft of g = absurd of
 bodies_tell (question.Pools ps) d draft of g = absurd of
+bodies_tell (question.Cooperators cs) d draft of g = absurd of
 bodies_tell (question.Bodies bs) d draft of g = record {
   leaf =
       λ l x h. or_also (not (is_body l)) (is_declared bs.now x) (has_body x draft.script.bodies)
@@ -295,6 +303,75 @@ bodies_good q d draft of h g suit =
     both (all_own_names d draft (nat_lt (version_in d) BODIES_SINCE) refl g h)
     (answered d draft (bodies_tell q d draft of g) g suit)
 
+-- ---- Cooperators
+
+abbrev cooperator_name : NamedCooperator → List ℕ
+cooperator_name named = named.name
+
+name_of_cooperator : (d : Data) (ds : Items) (c : NamedCooperator) → IsNamedCooperator d c
+    → name_in 0 (item d ds) ≡ Some c.name
+name_of_cooperator _ ds _ (names_cooperator name d c g) = refl
+
+apart : (ds : Items) (cs : List NamedCooperator) → Each IsNamedCooperator ds cs → AreDistinct ds → are_apart cs ≡ true
+apart no_items [] g h = refl
+apart no_items (c ∷ cs) g h = absurd g
+apart (item d ds) [] g h = absurd g
+apart (item d ds) (c ∷ cs) g h =
+    both (ap not (none_named cooperator_name IsNamedCooperator name_of_cooperator ds cs g.1 c.name
+    (λ n is. h (suc n) 0 c.name (omega arith) (name_of_cooperator d ds c g.0) is)))
+    (apart ds cs g.1 (λ n k name less is. h (suc n) (suc k) name (omega (arith, less)) is))
+
+field_apart : (o : Option Data) (cs : List NamedCooperator) → Field [] (IsList IsNamedCooperator) o cs
+    → AreDistinct (or_no_items (option_and_then as_array o)) → are_apart cs ≡ true
+field_apart None cs g h = rw g refl
+field_apart (Some d) cs g h = apart g.0 cs g.2 (rw (g.1) at h)
+
+cooperator_declared : (d : Data) (draft : Draft) (cs : List Value) → items_view cs ≡ list_in (codes "cooperators") d
+    → IsScript d draft → (x : List ℕ) → is_declared cs x ≡ true → has_cooperator x draft.script.cooperators ≡ true
+cooperator_declared d draft cs of g x h =
+    let one = declared_one cs x h in
+    let value : list_in (codes "cooperators") d
+    ≡ or_no_items (option_and_then as_array (get_member (codes "cooperators") g.members)) =
+    ap (λ e. or_no_items (option_and_then as_array (get (codes "cooperators") e))) g.whole in
+    field_named cooperator_name IsNamedCooperator name_of_cooperator (get_member (codes "cooperators") g.members)
+    draft.script.cooperators g.cooperators one.0 x (ap (name_in one.0) (sym (of ∙ value)) ∙ one.1)
+
+cooperators_tell : (q : Question) (d : Data) (draft : Draft) → IsOfCooperators d q → IsScript d draft
+    → Tells q (cooperators_asked draft.script.cooperators)
+cooperators_tell (question.Shape version) d draft of g = absurd of
+cooperators_tell (question.Names version) d draft of g = absurd of
+cooperators_tell (question.Classes given) d draft of g = absurd of
+cooperators_tell (question.Pools ps) d draft of g = absurd of
+cooperators_tell (question.Bodies bs) d draft of g = absurd of
+cooperators_tell (question.Cooperators cs) d draft of g = record {
+  leaf =
+      λ l x h. or_also (not (is_cooperator l)) (is_declared cs.now x) (has_cooperator x draft.script.cooperators)
+      (cooperator_declared d draft cs.now of g x) h;
+  word = λ c x h. refl;
+  object = λ k e h. refl;
+  body = λ since x h. refl;
+}
+
+all_apart : (d : Data) (draft : Draft) (b : Bool) → nat_lt (version_in d) COOPERATORS_SINCE ≡ b → IsScript d draft
+    → CooperatorsDistinct d → are_apart draft.script.cooperators ≡ true
+all_apart d draft true early g h =
+    let none : Field [] (IsList IsNamedCooperator) None draft.script.cooperators =
+    rw (early_has_no_cooperators d draft g early) at g.cooperators in
+    rw none refl
+all_apart d draft false late g h =
+    let value : list_in (codes "cooperators") d
+    ≡ or_no_items (option_and_then as_array (get_member (codes "cooperators") g.members)) =
+    ap (λ e. or_no_items (option_and_then as_array (get (codes "cooperators") e))) g.whole in
+    field_apart (get_member (codes "cooperators") g.members) draft.script.cooperators g.cooperators
+    (subst AreDistinct value (h late))
+
+-- a script in which no name of a Cooperator is given twice and each that is used is declared has its Cooperators
+pub cooperators_good : (q : Question) (d : Data) (draft : Draft) → IsOfCooperators d q → CooperatorsDistinct d
+    → IsScript d draft → AllSuit q (script_in d) d → have_cooperators d draft ≡ true
+cooperators_good q d draft of h g suit =
+    both (all_apart d draft (nat_lt (version_in d) COOPERATORS_SINCE) refl g h)
+    (answered d draft (cooperators_tell q d draft of g) g suit)
+
 -- ---- what is found where a script is refused so
 
 differs : {X : Type 0} (b : Bool) → b ≡ true → b ≡ false → X
@@ -311,8 +388,8 @@ found_name d m h shallow (inr whole) =
     h.3
 
 -- refused for a class, a class is found, where each may be declared
-pub found_class : (q : Question) (d : Data) (m : Misfit) → IsOfClasses d q → AllMayDeclare (list_in (codes "classes") d)
-    → IsRefusedFor BadClass d → depth d ≤ MOST_LEVELS → Misfits q d m → IsBadClass d m
+pub found_class : (q : Question) (d : Data) (m : Misfit) → IsOfClasses d q
+    → AllMayDeclare (version_in d) (list_in (codes "classes") d) → IsRefusedFor BadClass d → depth d ≤ MOST_LEVELS → Misfits q d m → IsBadClass d m
 found_class q d m of may h shallow (inl bad) = misused_class q d m of bad
 found_class q d m of may h shallow (inr whole) =
     differs (are_known d h.0) (classes_good q d h.0 of may h.1.shape h.2 (whole.1 shallow)) h.4
@@ -330,6 +407,13 @@ pub found_body : (q : Question) (d : Data) (m : Misfit) → IsOfBodies d q → B
 found_body q d m of once h shallow (inl bad) = misused_body q d m of bad
 found_body q d m of once h shallow (inr whole) =
     differs (have_bodies d h.0) (bodies_good q d h.0 of once h.1.shape (whole.1 shallow)) h.6
+
+-- refused for a Cooperator, one is found, where each has a name of its own
+pub found_cooperator : (q : Question) (d : Data) (m : Misfit) → IsOfCooperators d q → CooperatorsDistinct d
+    → IsRefusedFor BadCooperator d → depth d ≤ MOST_LEVELS → Misfits q d m → IsBadCooperator d m
+found_cooperator q d m of once h shallow (inl bad) = misused_cooperator q d m of bad
+found_cooperator q d m of once h shallow (inr whole) =
+    differs (have_cooperators d h.0) (cooperators_good q d h.0 of once h.1.shape (whole.1 shallow)) h.7
 
 -- ---- shapes
 

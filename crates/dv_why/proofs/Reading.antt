@@ -1,7 +1,7 @@
 -- Where each part of a value fits, it reads.
 use Rattle.std.proofs.Common.{Ordering, Less, Equal, Greater, is_eq, nat_cmp, ◌≡◌, ℕ, zero, suc, ◌≤◌, nat_eq, nat_le}
 use Rattle.std.proofs.Common.{nat_lt}
-use Rattle.std.proofs.Common.{Bool, true, false, ◌&&◌, ◌||◌, List, [], ◌∷◌, Option, Some, None, is_some}
+use Rattle.std.proofs.Common.{Bool, true, false, ◌&&◌, ◌||◌, List, [], ◌∷◌, ◌++◌, Option, Some, None, is_some}
 use Rattle.std.proofs.Common.{option_and_then, bytes_eq, refl}
 use Rattle.std.proofs.Common.{sym, ap, subst, ◌∙◌, arith, codes}
 use Rattle.std.specs.List.{list_any}
@@ -27,13 +27,14 @@ use Rattle.dv_script.specs.declared.action.Action.{Note, List as ListOf, Gather,
 use Rattle.dv_script.specs.declared.action.Action.{Release, RunWith, Queue, Put, Get, Later, CancelCall, ResetCall}
 use Rattle.dv_script.specs.declared.action.Action.{DelayCall, Loop, StopLoop}
 use Rattle.dv_script.specs.declared.action.Action.{Cooperate, WhenDone, PauseTask, StopTask, ResumeTask, Inline, Thread}
-use Rattle.dv_script.specs.declared.action.Action.{ThreadIn, Units}
+use Rattle.dv_script.specs.declared.action.Action.{ThreadIn, Units, CooperateIn, UnitsIn, StopCooperator}
 use Rattle.dv_script.specs.declared.event.Event.{Event}
 use Rattle.dv_script.specs.declared.event.Event.TheVariants as happens
 use Rattle.dv_script.specs.declared.expected.Expected.{Expected}
 use Rattle.dv_script.specs.declared.expected.Expected.TheVariants as expected
 use Rattle.dv_script.specs.declared.script.Cooperator.{Cooperator}
 use Rattle.dv_script.specs.declared.script.NamedBody.{NamedBody}
+use Rattle.dv_script.specs.declared.script.NamedCooperator.{NamedCooperator}
 use Rattle.dv_script.specs.declared.script.NamedPool.{NamedPool}
 use Rattle.dv_script.specs.declared.limits.TheConstants.{MOST_DRAINED, MOST_PLACE, MOST_PLACES, MOST_SUM, MOST_UNITS}
 use Rattle.dv_script.specs.declared.limits.TheConstants.{MOST_WORKERS, USUAL_LIMIT}
@@ -55,16 +56,20 @@ use Rattle.dv_grammar.specs.Grammar.{gather, maybe, lock, semaphore, acquire, re
 use Rattle.dv_grammar.specs.Grammar.{cancel_call, reset_call, delay_call, loop, stop_loop, cooperate, when_done}
 use Rattle.dv_grammar.specs.Grammar.{pause_task, stop_task}
 use Rattle.dv_grammar.specs.Grammar.{resume_task, inline, thread, thread_in, units as units_rule, AreActions}
-use Rattle.dv_grammar.specs.Grammar.{no_actions, more_actions, IsDo}
+use Rattle.dv_grammar.specs.Grammar.{no_actions, more_actions, IsDo, cooperate_in, units_in, stop_cooperator}
 use Rattle.dv_grammar.specs.Grammar.{does_nothing, does, IsBody, body, body_by_name, running, AreBodies, no_bodies}
 use Rattle.dv_grammar.specs.Grammar.{more_bodies, IsStatement}
 use Rattle.dv_grammar.specs.Grammar.{performs, awaits, tries, finishes, raises_again, takes_caught, leaves}
 use Rattle.dv_grammar.specs.Grammar.{AreStatements, no_statements, more_statements}
 use Rattle.dv_grammar.specs.Grammar.{IsOutcome, is_unfired, is_waiting, is_ok, is_failed}
-use Rattle.dv_grammar.specs.Grammar.{IsEvent, acts, advances, drains, expects, IsDeclaration, declares, IsPool, pools}
-use Rattle.dv_grammar.specs.Grammar.{IsCooperator, IsScript, IsBound, IsNamedBody, names_body}
+use Rattle.dv_grammar.specs.Grammar.{acts, advances, drains, expects, IsDeclaration, declares, IsPool, pools}
+use Rattle.dv_grammar.specs.Grammar.{repeated, IsListed, one_event, repeats, AreListed, no_events, more_events}
+use Rattle.dv_grammar.specs.Grammar.{AreEvents}
+use Rattle.dv_forms.specs.declared.limits.TheConstants.{MOST_TIMES}
+use Rattle.dv_grammar.specs.Grammar.{IsCooperator, IsScript, IsBound, IsNamedBody, names_body, IsNamedCooperator}
+use Rattle.dv_grammar.specs.Grammar.{names_cooperator}
 use Rattle.dv_grammar.proofs.WordsLemmas.{◌&◌}
-use Rattle.dv_forms.specs.declared.versions.TheConstants.{BODIES_SINCE, COMMENTS_SINCE, LAST_VERSION}
+use Rattle.dv_forms.specs.declared.versions.TheConstants.{BODIES_SINCE, COMMENTS_SINCE, COOPERATORS_SINCE, LAST_VERSION}
 use Rattle.dv_forms.specs.declared.want.Want.{Want}
 use Rattle.dv_forms.specs.declared.want.Want.TheVariants as want
 use Rattle.dv_forms.specs.declared.want.Leaf.TheVariants as leaf
@@ -75,7 +80,8 @@ use Rattle.dv_forms.specs.declared.want.Item.{Item}
 use Rattle.dv_forms.specs.declared.want.Item.TheVariants as item_of
 use Rattle.dv_why.specs.declared.question.Question.TheVariants as question
 use Rattle.dv_forms.specs.declared.want.Object.TheVariants as object
-use Rattle.dv_forms.specs.Wants.{a_deferred, a_class, a_text, a_comment, a_body, item_want, key_want, keys_in}
+use Rattle.dv_forms.specs.Wants.{a_deferred, a_class, a_cooperator, a_text, a_comment, a_body, item_want, key_want}
+use Rattle.dv_forms.specs.Wants.{keys_in}
 use Rattle.dv_forms.specs.Words.{own_forms, wants_in}
 use Rattle.dv_why.specs.Places.{nth}
 use Rattle.dv_questions.specs.Asking.{count}
@@ -390,7 +396,7 @@ each_script_key v low false true one two =
     simp (one, two, early) (refl, (refl, (refl, (refl, (refl, (refl, (refl, (refl, tt))))))))
 each_script_key v low false false one two =
     let late : nat_lt v BODIES_SINCE ≡ false = since_third v low one two in
-    simp (one, two, late) (refl, (refl, (refl, (refl, (refl, (refl, (refl, (refl, (refl, tt)))))))))
+    simp (one, two, late) (refl, (refl, (refl, (refl, (refl, (refl, (refl, (refl, (refl, (refl, tt))))))))))
 
 script_only : (v : ℕ) → 1 ≤ v → (ms : Members) → AllSuit (question.Shape v) (want.Keyed (keyed.Script v)) (object ms)
     → is_keyed_by (keys_of v) ms ≡ true
@@ -444,6 +450,10 @@ IsActionRead v n table word wants =
 -- a text
 abbrev IsTextAt : ℕ → Want → Type 0
 IsTextAt v w = (d : Data) → fits v w d ≡ true → is_some (as_str d) ≡ true
+
+-- the name of a Cooperator that is looked up is a text
+cooperator_text : (v : ℕ) (d : Data) → fits v a_cooperator d ≡ true → (x : List ℕ) × (d ≡ string x)
+cooperator_text v d h = text_of d (and_parts (nat_le COOPERATORS_SINCE v) (is_some (as_str d)) h).1
 
 one_text : {word : List ℕ} (v n : ℕ) (table : List Class) (w : Want) → IsTextAt v w → (make : List ℕ → Action)
     → ((x : List ℕ) → IsAction table (call word (string x ∷ [])) (make x)) → IsActionRead v n table word (w ∷ [])
@@ -581,6 +591,23 @@ actions v n table read =
     let a = one_arg v n (want.Leaf (leaf.Number 1 MOST_UNITS)) ds h in
     let k = number_fine v n 1 MOST_UNITS a.a a.fine in
     rw (a.items) (Units k.0, units_rule a.a k.0 k.1)) &
+    (λ ds h.
+    let a = three_args v n _ _ _ ds h in
+    let p = text_of a.a (fits_fine a.one) in
+    let q = cooperator_text v a.b (fits_fine a.two) in
+    let o = open_array v n item_of.Body a.c a.three in
+    let r = bodies_of table o.items (λ k e is. read.of_body e (o.each k e is)) in
+    rw (a.items, p.1, q.1, o.whole)
+    (CooperateIn p.0 q.0 r.0, cooperate_in p.0 q.0 o.items r.0 r.1)) &
+    (λ ds h.
+    let a = two_args v n _ _ ds h in
+    let p = cooperator_text v a.a (fits_fine a.one) in
+    let k = number_fine v n 1 MOST_UNITS a.b a.two in
+    rw (a.items, p.1) (UnitsIn p.0 k.0, units_in p.0 a.b k.0 k.1)) &
+    (λ ds h.
+    let a = one_arg v n _ ds h in
+    let p = cooperator_text v a.a (fits_fine a.fine) in
+    rw (a.items, p.1) (StopCooperator p.0, stop_cooperator p.0)) &
     tt
 
 action_fine : (v n : ℕ) (table : List Class) → AreRead v n table → (d : Data) → IsFine v n (want.Call call_of.Action) d
@@ -694,44 +721,84 @@ are_read v (suc n) table =
 
 -- ---- events
 
--- the arguments of a word read as those of an event
+-- an array of which each part fits reads as events
+abbrev ReadsEvents : ℕ → ℕ → List Class → Type 0
+ReadsEvents v n table =
+    (d : Data) → IsFine v n (want.Array item_of.Event) d → (es : List Event) × AreEvents table d es
+
+-- the arguments of a word read as those of an item of an array of events
 abbrev IsEventRead : ℕ → ℕ → List Class → List ℕ → List Want → Type 0
 IsEventRead v n table word wants =
-    (ds : Items) → AreFine v n wants ds → (e : Event) × IsEvent table (array (item (string word) ds)) e
+    (ds : Items) → AreFine v n wants ds → (es : List Event) × IsListed table (array (item (string word) ds)) es
 
-other_events : (v n : ℕ) (table : List Class) → EachForm (IsEventRead v n table) (own_forms call_of.Event)
-other_events v n table =
+other_events : (v n : ℕ) (table : List Class) → ReadsEvents v n table
+    → EachForm (IsEventRead v n table) (own_forms call_of.Event)
+other_events v n table below =
     (λ ds h.
     let a = one_arg v n (want.Leaf (leaf.Number 0 MOST_TICKS)) ds h in
     let k = number_fine v n 0 MOST_TICKS a.a a.fine in
-    rw (a.items) (happens.Advance k.0, advances a.a k.0 k.1)) &
+    rw (a.items) (happens.Advance k.0 ∷ [], one_event _ (happens.Advance k.0) (advances a.a k.0 k.1))) &
     (λ ds h.
     let a = one_arg v n (want.Leaf (leaf.Number 0 MOST_DRAINED)) ds h in
     let k = number_fine v n 0 MOST_DRAINED a.a a.fine in
-    rw (a.items) (happens.Drain k.0, drains a.a k.0 k.1)) &
+    rw (a.items) (happens.Drain k.0 ∷ [], one_event _ (happens.Drain k.0) (drains a.a k.0 k.1))) &
     (λ ds h.
     let a = two_args v n a_deferred (want.Call call_of.Outcome) ds h in
     let t = text_of a.a (fits_fine a.one) in
     let x = outcome_fine v n table a.b a.two in
-    rw (a.items, t.1) (happens.Expect t.0 x.0, expects t.0 a.b x.0 x.1)) &
+    rw (a.items, t.1)
+    (happens.Expect t.0 x.0 ∷ [], one_event _ (happens.Expect t.0 x.0) (expects t.0 a.b x.0 x.1))) &
+    (λ ds h.
+    let a = two_args v n (want.Leaf (leaf.Number 0 MOST_TIMES)) (want.Array item_of.Event) ds h in
+    let k = number_fine v n 0 MOST_TIMES a.a a.one in
+    let es = below a.b a.two in
+    rw (a.items, es.1.1) (repeated k.0 es.0, repeats a.a k.0 es.1.0 es.0 k.1 es.1.2)) &
     tt
 
 event_by : (v n : ℕ) (table : List Class) (word : List ℕ) (wants : List Want) (ds : Items)
     → wants_in (own_forms call_of.Action) word (count ds) ≡ Some wants → AreFine v n wants ds
-    → (e : Event) × IsEvent table (array (item (string word) ds)) e
+    → (es : List Event) × IsListed table (array (item (string word) ds)) es
 event_by v n table word wants ds form args =
     let x = found_form (IsActionRead v n table) (own_forms call_of.Action) (actions v n table (are_read v n table)) word
     (count ds) wants form ds args in
-    (happens.Action x.0, acts _ x.0 x.1)
+    (happens.Action x.0 ∷ [], one_event _ (happens.Action x.0) (acts _ x.0 x.1))
 
-event_fine : (v n : ℕ) (table : List Class) (d : Data) → IsFine v n (want.Call call_of.Event) d
-    → (e : Event) × IsEvent table d e
-event_fine v n table d h =
-    let o = open_call v n call_of.Event d (fits_fine h) (λ k u e wants is. same k h wants is) in
+-- an item of an array of which each part fits reads as events
+abbrev ReadsListed : ℕ → ℕ → List Class → Type 0
+ReadsListed v n table =
+    (d : Data) → IsFine v n (want.Call call_of.Event) d → (es : List Event) × IsListed table d es
+
+listed_of : (table : List Class) (ds : Items)
+    → ((k : ℕ) (e : Data) → get_item k ds ≡ Some e → (es : List Event) × IsListed table e es)
+    → (es : List Event) × AreListed table ds es
+listed_of table no_items h = ([], no_events)
+listed_of table (item d ds) h =
+    let x = h 0 d refl in
+    let xs = listed_of table ds (λ k e is. h (suc k) e is) in
+    (x.0 ++ xs.0, more_events d ds x.0 xs.0 x.1 xs.1)
+
+events_by : (v n : ℕ) (table : List Class) → ReadsListed v n table → ReadsEvents v n table
+events_by v n table one d h =
+    let o = open_array v n item_of.Event d h in
+    let es = listed_of table o.items (λ k e is. one e (o.each k e is)) in
+    (es.0, (o.items, o.whole, es.1))
+
+event_fine : (v n : ℕ) (table : List Class) → ReadsListed v n table
+event_fine v zero table (array ds) h = let deep : depth (array ds) ≤ 0 = h.deep in absurd (omega (arith, deep))
+event_fine v zero table d h = let fit : fits v (want.Call call_of.Event) d ≡ true = fits_fine h in cc
+event_fine v (suc n) table d h =
+    let o = open_call v n call_of.Event d (fits_fine h) (λ k u e wants is. inside k h wants is) in
     rw (o.whole) (either_found (wants_in (own_forms call_of.Event) o.word (count o.rest)) _ o.wants o.form
-    (λ form. found_form (IsEventRead v n table) (own_forms call_of.Event) (other_events v n table) o.word
+    (λ form. found_form (IsEventRead v n table) (own_forms call_of.Event)
+    (other_events v n table (events_by v n table (event_fine v n table))) o.word
     (count o.rest) o.wants form o.rest o.args)
     (λ form. event_by v n table o.word o.wants o.rest form o.args))
+
+key_events : (v n : ℕ) (table : List Class) (o : Option Data) → is_some o ≡ true
+    → ((e : Data) → o ≡ Some e → IsFine v n (want.Array item_of.Event) e)
+    → (es : List Event) × Key (AreEvents table) o es
+key_events v n table None is h = cc
+key_events v n table (Some d) is h = events_by v n table (event_fine v n table) d (h d refl)
 
 -- ---- declarations, pools, the cooperator
 
@@ -797,6 +864,16 @@ cooperator_fine v n (object ms) h =
     )
 cooperator_fine v n d h = let fit : fits v (want.Keyed keyed.Cooperator) d ≡ true = fits_fine h in cc
 
+named_cooperator_fine : (v n : ℕ) (d : Data) → IsFine v n (item_want item_of.NamedCooperator) d
+    → (c : NamedCooperator) × IsNamedCooperator d c
+named_cooperator_fine v n (array ds) h =
+    let a = pair_fine v n (want.Leaf (leaf.New object.Cooperator)) (want.Keyed keyed.Cooperator) (array ds) ds refl
+    (fits_fine h) (λ k u e wants is. same k h wants is) in
+    let t = text_of a.a (fits_fine a.one) in
+    let c = cooperator_fine v n a.b a.two in
+    rw (a.items, t.1) (record { name = t.0; settings = c.0 }, names_cooperator t.0 a.b c.0 c.1)
+named_cooperator_fine v n d h = let fit : fits v (item_want item_of.NamedCooperator) d ≡ true = fits_fine h in cc
+
 cooperator_field : (v n : ℕ) (o : Option Data) → ((e : Data) → o ≡ Some e → IsFine v n (want.Keyed keyed.Cooperator) e)
     → (c : Cooperator) × Field plain_cooperator IsCooperator o c
 cooperator_field v n None h = (plain_cooperator, refl)
@@ -807,12 +884,6 @@ list_field : {X : Type 0} (v n : ℕ) (i : Item) (Is : Data → X → Type 0)
     → ((e : Data) → o ≡ Some e → IsFine v n (want.Array i) e) → (xs : List X) × Field [] (IsList Is) o xs
 list_field v n i Is one None h = ([], refl)
 list_field v n i Is one (Some d) h = list_of v n i Is one d (h d refl)
-
-list_key : {X : Type 0} (v n : ℕ) (i : Item) (Is : Data → X → Type 0)
-    → ((e : Data) → IsFine v n (item_want i) e → (x : X) × Is e x) → (o : Option Data) → is_some o ≡ true
-    → ((e : Data) → o ≡ Some e → IsFine v n (want.Array i) e) → (xs : List X) × Key (IsList Is) o xs
-list_key v n i Is one None is h = cc
-list_key v n i Is one (Some d) is h = list_of v n i Is one d (h d refl)
 
 -- ---- scripts
 
@@ -842,6 +913,17 @@ bodies_field v n table false late ms h =
     list_field v n item_of.NamedBody (IsNamedBody table) (named_body_fine v n table) (get_member (codes "bodies") ms)
     (λ e is. value_fine (codes "bodies") h (rw late refl) is)
 
+cooperators_field : (v n : ℕ) (b : Bool) → nat_lt v COOPERATORS_SINCE ≡ b → (ms : Members)
+    → IsFine v n (want.Keyed (keyed.Script v)) (object ms)
+    → (xs : List NamedCooperator) × Field [] (IsList IsNamedCooperator) (get_member (codes "cooperators") ms) xs
+cooperators_field v n true early ms h =
+    let none : get_member (codes "cooperators") ms ≡ None = no_value (get_member (codes "cooperators") ms)
+    (λ e is. not_other v (keyed.Script v) ms h.suit (codes "cooperators") e is (rw early refl)) in
+    rw none ([], refl)
+cooperators_field v n false late ms h =
+    list_field v n item_of.NamedCooperator IsNamedCooperator (named_cooperator_fine v n)
+    (get_member (codes "cooperators") ms) (λ e is. value_fine (codes "cooperators") h (rw late refl) is)
+
 -- a document of which each part fits is a script
 pub script_fine : (d : Data) → AllSuit (question.Shape (version_in d)) (script_in d) d
     → (draft : Draft) × IsScript d draft
@@ -858,27 +940,29 @@ script_fine (object ms) suit =
     let same_version : v ≡ version.0 = version_of (get_member (codes "version") ms) version.0 version.1 in
     let classes = list_field v n item_of.Declaration IsDeclaration (declaration_fine v n)
     (get_member (codes "classes") ms) (λ e is. value_fine (codes "classes") h refl is) in
-    let table = table_of classes.0 in
+    let table = table_of version.0 classes.0 in
     let limit = number_field v n USUAL_LIMIT 0 (most_limit v) (get_member (codes "limit") ms)
     (λ e is. value_fine (codes "limit") h refl is) in
     let cooperator =
     cooperator_field v n (get_member (codes "cooperator") ms) (λ e is. value_fine (codes "cooperator") h refl is) in
     let named = pools_field v n (nat_eq v 1) refl ms h in
     let bodied = bodies_field v n table (nat_lt v BODIES_SINCE) refl ms h in
+    let scheduled = cooperators_field v n (nat_lt v COOPERATORS_SINCE) refl ms h in
     let callers = list_field v n item_of.Caller (IsList (IsBody table)) (list_of v n item_of.Body (IsBody table)
     (are_read v n table).of_body) (get_member (codes "callers") ms) (λ e is. value_fine (codes "callers") h refl is) in
-    let events = list_key v n item_of.Event (IsEvent table) (event_fine v n table)
+    let events = key_events v n table
     (get_member (codes "events") ms) keys.1 (λ e is. value_fine (codes "events") h refl is) in (
       record {
         version = version.0;
         declared = classes.0;
-        all_declared = all_declared classes.0;
+        all_declared = all_declared version.0 classes.0;
         script = record {
           classes = table;
           limit = limit.0;
           cooperator = cooperator.0;
           pools = named.0;
           bodies = bodied.0;
+          cooperators = scheduled.0;
           callers = callers.0;
           events = events.0;
         };
@@ -898,6 +982,7 @@ script_fine (object ms) suit =
         cooperator = cooperator.1;
         pools = named.1;
         bodies = bodied.1;
+        cooperators = scheduled.1;
         callers = callers.1;
         events = events.1;
       },

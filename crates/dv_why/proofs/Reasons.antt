@@ -7,6 +7,7 @@ use Rattle.dv_grammar.proofs.Steps.{some_injective}
 use Rattle.dv_reader.specs.declared.error.ScriptFault.{ScriptFault}
 use Rattle.dv_reader.specs.declared.error.ScriptFault.TheVariants.{TooLong, NotJson, BadVersion, BadShape, TooMany}
 use Rattle.dv_reader.specs.declared.error.ScriptFault.TheVariants.{BadName, BadClass, OutOfMemory, BadPool, BadBody}
+use Rattle.dv_reader.specs.declared.error.ScriptFault.TheVariants.{BadCooperator}
 use Rattle.dv_reader.specs.Refusal.{IsDocument, HasShape, Refuses}
 use Rattle.dv_why.specs.Reasons.{HasShapeOf, IsRefusedFor}
 
@@ -37,3 +38,6 @@ refused_for BadPool bytes d is h =
 refused_for BadBody bytes d is h =
     subst (IsRefusedFor BadBody) (same_value bytes d h.0 is h.2.document)
     (h.1, shape_of bytes h.0 h.1 h.2, h.3, h.4, h.5, h.6, h.7)
+refused_for BadCooperator bytes d is h =
+    subst (IsRefusedFor BadCooperator) (same_value bytes d h.0 is h.2.document)
+    (h.1, shape_of bytes h.0 h.1 h.2, h.3, h.4, h.5, h.6, h.7, h.8)

@@ -17,10 +17,10 @@ use Rattle.dv_why.specs.declared.question.Question.{Question}
 use Rattle.dv_why.specs.declared.question.Question.TheVariants as question
 use Rattle.dv_why.specs.Declaring.{table_in}
 use Rattle.dv_why.specs.Documents.{list_in, name_in, version_in}
-use Rattle.dv_questions.specs.Questions.{is_body, is_class, is_pool}
+use Rattle.dv_questions.specs.Questions.{is_body, is_class, is_cooperator, is_pool}
 use Rattle.dv_why.specs.Fits.{is_declared, leaf_suits, name_suits, names_suit, suits}
 use Rattle.dv_why.specs.Wrong.{IsMisnamed, IsBadClass, unknown_class, IsBadPool, unknown_pool, IsBadBody, unknown_body}
-use Rattle.dv_why.specs.Wrong.{AsksFor, a_named_body}
+use Rattle.dv_why.specs.Wrong.{AsksFor, a_named_body, IsBadCooperator, unknown_cooperator}
 use Rattle.dv_why.proofs.GivenNames.{declared_none}
 
 -- a text stands where a leaf is asked for
@@ -67,6 +67,10 @@ body_is : (l : Leaf) → is_body l ≡ true → l ≡ leaf.Found object.Body
 body_is (leaf.Found object.Body) h = refl
 body_is _ h = cc
 
+cooperator_is : (l : Leaf) → is_cooperator l ≡ true → l ≡ leaf.Found object.Cooperator
+cooperator_is (leaf.Found object.Cooperator) h = refl
+cooperator_is _ h = cc
+
 -- a place that asks for another leaf than the name of a body asks for this
 asks_itself : (l k : Leaf) (w : Want) → AsksFor l w → l ≡ k → is_body k ≡ false → w ≡ want.Leaf k
 asks_itself l k w (inl asks) is other = asks ∙ ap (λ (x : Leaf). want.Leaf x) is
@@ -87,6 +91,7 @@ IsOfClasses d (question.Names version) = ⊥
 IsOfClasses d (question.Classes classes) = classes.now ≡ table_in d
 IsOfClasses d (question.Pools pools) = ⊥
 IsOfClasses d (question.Bodies bodies) = ⊥
+IsOfClasses d (question.Cooperators cooperators) = ⊥
 
 -- a part that answers badly is a class that isn't in the table
 pub misused_class : (q : Question) (d : Data) (m : Misfit) → IsOfClasses d q → suits q m.want (view m.found.now) ≡ false
@@ -95,6 +100,7 @@ misused_class (question.Shape version) d m of h = absurd of
 misused_class (question.Names version) d m of h = absurd of
 misused_class (question.Pools pools) d m of h = absurd of
 misused_class (question.Bodies bodies) d m of h = absurd of
+misused_class (question.Cooperators cooperators) d m of h = absurd of
 misused_class (question.Classes classes) d m of bad =
     let b = bad_text (question.Classes classes) m.want (view m.found.now) bad in
     let c = or_not (is_class b.leaf) (is_some (find_class b.name classes.now)) b.bad in
@@ -108,6 +114,7 @@ IsOfPools d (question.Names version) = ⊥
 IsOfPools d (question.Classes classes) = ⊥
 IsOfPools d (question.Pools pools) = items_view pools.now ≡ list_in (codes "pools") d
 IsOfPools d (question.Bodies bodies) = ⊥
+IsOfPools d (question.Cooperators cooperators) = ⊥
 
 -- a part that answers badly is a pool that isn't declared
 pub misused_pool : (q : Question) (d : Data) (m : Misfit) → IsOfPools d q → suits q m.want (view m.found.now) ≡ false
@@ -116,6 +123,7 @@ misused_pool (question.Shape version) d m of h = absurd of
 misused_pool (question.Names version) d m of h = absurd of
 misused_pool (question.Classes classes) d m of h = absurd of
 misused_pool (question.Bodies bodies) d m of h = absurd of
+misused_pool (question.Cooperators cooperators) d m of h = absurd of
 misused_pool (question.Pools pools) d m of bad =
     let b = bad_text (question.Pools pools) m.want (view m.found.now) bad in
     let c = or_not (is_pool b.leaf) (is_declared pools.now b.name) b.bad in
@@ -130,6 +138,7 @@ IsOfBodies d (question.Names version) = ⊥
 IsOfBodies d (question.Classes classes) = ⊥
 IsOfBodies d (question.Pools pools) = ⊥
 IsOfBodies d (question.Bodies bodies) = items_view bodies.now ≡ list_in (codes "bodies") d
+IsOfBodies d (question.Cooperators cooperators) = ⊥
 
 -- a part that answers badly is a body that isn't declared
 pub misused_body : (q : Question) (d : Data) (m : Misfit) → IsOfBodies d q → suits q m.want (view m.found.now) ≡ false
@@ -138,12 +147,38 @@ misused_body (question.Shape version) d m of h = absurd of
 misused_body (question.Names version) d m of h = absurd of
 misused_body (question.Classes classes) d m of h = absurd of
 misused_body (question.Pools pools) d m of h = absurd of
+misused_body (question.Cooperators cooperators) d m of h = absurd of
 misused_body (question.Bodies bodies) d m of bad =
     let b = bad_text (question.Bodies bodies) m.want (view m.found.now) bad in
     let c = or_not (is_body b.leaf) (is_declared bodies.now b.name) b.bad in
     let none : (n : ℕ) → name_in n (list_in (codes "bodies") d) ≢ Some b.name =
     subst (λ (ds : Items). (n : ℕ) → name_in n ds ≢ Some b.name) of (declared_none bodies.now b.name c.1) in
     unknown_body b.name (subst (λ (l : Leaf). AsksFor l m.want) (body_is b.leaf c.0) b.asks) b.text none
+
+-- the question asks for the Cooperators of this document
+abbrev pub IsOfCooperators : Data → Question → Type 0
+IsOfCooperators d (question.Shape version) = ⊥
+IsOfCooperators d (question.Names version) = ⊥
+IsOfCooperators d (question.Classes classes) = ⊥
+IsOfCooperators d (question.Pools pools) = ⊥
+IsOfCooperators d (question.Bodies bodies) = ⊥
+IsOfCooperators d (question.Cooperators cooperators) =
+    items_view cooperators.now ≡ list_in (codes "cooperators") d
+
+-- a part that answers badly is a Cooperator that isn't declared
+pub misused_cooperator : (q : Question) (d : Data) (m : Misfit) → IsOfCooperators d q
+    → suits q m.want (view m.found.now) ≡ false → IsBadCooperator d m
+misused_cooperator (question.Shape version) d m of h = absurd of
+misused_cooperator (question.Names version) d m of h = absurd of
+misused_cooperator (question.Classes classes) d m of h = absurd of
+misused_cooperator (question.Pools pools) d m of h = absurd of
+misused_cooperator (question.Bodies bodies) d m of h = absurd of
+misused_cooperator (question.Cooperators cooperators) d m of bad =
+    let b = bad_text (question.Cooperators cooperators) m.want (view m.found.now) bad in
+    let c = or_not (is_cooperator b.leaf) (is_declared cooperators.now b.name) b.bad in
+    let none : (n : ℕ) → name_in n (list_in (codes "cooperators") d) ≢ Some b.name =
+    subst (λ (ds : Items). (n : ℕ) → name_in n ds ≢ Some b.name) of (declared_none cooperators.now b.name c.1) in
+    unknown_cooperator b.name (asks_itself b.leaf _ m.want b.asks (cooperator_is b.leaf c.0) refl) b.text none
 
 -- what two clauses say of a result
 pub both_ok : {X E : Type 0} (r : Result X E) (P Q R : X → Type 0) → ((x : X) → P x → Q x → R x) → IfOk r P → IfOk r Q

@@ -1,4 +1,5 @@
--- The version that a document says, and that a script of the first has no pools, and one before the third no bodies.
+-- The version that a document says, and that a script of the first has no pools, and one before the third no bodies
+-- and no Cooperators by name.
 use Rattle.std.proofs.Common.{is_eq, true≢false, Ordering, Less, Equal, Greater, nat_cmp, ◌≡◌, ℕ, ◌≤◌, Bool, true}
 use Rattle.std.proofs.Common.{false}
 use Rattle.std.proofs.Common.{◌||◌, nat_eq, nat_lt, List, ◌∷◌, Option, Some, None, option_and_then, bytes_eq, refl, sym}
@@ -13,7 +14,7 @@ use Rattle.std.specs.Cmp.Lexicographic.{slice_cmp}
 use Rattle.serde_json.specs.Data.{Data, Members, no_members, member}
 use Rattle.serde_json.specs.Find.{get_member, as_number, as_u64}
 use Rattle.dv_forms.specs.Forms.{Key, has_only, is_keyed_by, IsNumber}
-use Rattle.dv_forms.specs.declared.versions.TheConstants.{BODIES_SINCE, LAST_VERSION}
+use Rattle.dv_forms.specs.declared.versions.TheConstants.{BODIES_SINCE, COOPERATORS_SINCE, LAST_VERSION}
 use Rattle.dv_grammar.specs.declared.draft.Draft.{Draft}
 use Rattle.dv_grammar.specs.Grammar.{keys_of, script_keys, IsScript}
 use Rattle.dv_why.specs.Documents.{version_in, or_last}
@@ -64,6 +65,20 @@ no_bodies : (v : ℕ) (b : Bool) → nat_eq v 1 ≡ b → nat_lt v BODIES_SINCE 
 no_bodies v true one early ms h = lacks (codes "bodies") script_keys refl ms (and_parts _ _ (rw one at h)).0
 no_bodies v false two early ms h =
     lacks (codes "bodies") (codes "pools" ∷ script_keys) refl ms (and_parts _ _ (rw (two, early) at h)).0
+
+-- and no Cooperators by name
+no_cooperators : (v : ℕ) (b : Bool) → nat_eq v 1 ≡ b → nat_lt v COOPERATORS_SINCE ≡ true → (ms : Members)
+    → is_keyed_by (keys_of v) ms ≡ true → get_member (codes "cooperators") ms ≡ None
+no_cooperators v true one early ms h =
+    lacks (codes "cooperators") script_keys refl ms (and_parts _ _ (rw one at h)).0
+no_cooperators v false two early ms h =
+    lacks (codes "cooperators") (codes "pools" ∷ script_keys) refl ms (and_parts _ _ (rw (two, early) at h)).0
+
+pub early_has_no_cooperators : (d : Data) (draft : Draft) (g : IsScript d draft)
+    → nat_lt (version_in d) COOPERATORS_SINCE ≡ true → get_member (codes "cooperators") g.members ≡ None
+early_has_no_cooperators d draft g early =
+    no_cooperators draft.version (nat_eq draft.version 1) refl
+    (ap (λ v. nat_lt v COOPERATORS_SINCE) (sym (same_version d draft g)) ∙ early) g.members g.only
 
 pub early_has_no_bodies : (d : Data) (draft : Draft) (g : IsScript d draft) → nat_lt (version_in d) BODIES_SINCE ≡ true
     → get_member (codes "bodies") g.members ≡ None

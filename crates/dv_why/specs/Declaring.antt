@@ -3,10 +3,10 @@ use Rattle.std.specs.Prelude.{◌<◌, ℕ, zero, suc, List, Option, Some, None,
 use Rattle.serde_json.specs.Data.{Data, Items}
 use Rattle.serde_json.specs.Find.{at, get_item, as_str}
 use Rattle.dv_value.specs.declared.classes.Class.{Class}
-use Rattle.dv_value.specs.Builtin.{builtin}
 use Rattle.dv_value.specs.Declaring.{with_class, CanDeclare}
 use Rattle.dv_script.specs.declared.limits.TheConstants.{MOST_CLASSES}
-use Rattle.dv_why.specs.Documents.{list_in}
+use Rattle.dv_forms.specs.Table.{first_classes}
+use Rattle.dv_why.specs.Documents.{list_in, version_in}
 
 -- the table with a class of this name and this parent, where there are both
 abbrev pub with_pair : List Class → Option (List ℕ) → Option (List ℕ) → List Class
@@ -30,16 +30,16 @@ abbrev pub MayDeclare : List Class → Option Data → Type 0
 MayDeclare table None = ⊤
 MayDeclare table (Some d) = MayAdd table (option_and_then as_str (at 0 d)) (option_and_then as_str (at 1 d))
 
--- the table before the declaration of this number: the classes that every script has, and those that are declared
+-- the table before the declaration of this number: the classes that every script of a version has, and those that are declared
 -- before it
-unfoldable pub table_before : Items → ℕ → List Class
-table_before ds zero = builtin
-table_before ds (suc n) = class_after (table_before ds n) (get_item n ds)
+unfoldable pub table_before : ℕ → Items → ℕ → List Class
+table_before version ds zero = first_classes version
+table_before version ds (suc n) = class_after (table_before version ds n) (get_item n ds)
 
 -- each declaration of a list may be added after those before it
-abbrev pub AllMayDeclare : Items → Type 0
-AllMayDeclare ds = (n : ℕ) → n < MOST_CLASSES → MayDeclare (table_before ds n) (get_item n ds)
+abbrev pub AllMayDeclare : ℕ → Items → Type 0
+AllMayDeclare version ds = (n : ℕ) → n < MOST_CLASSES → MayDeclare (table_before version ds n) (get_item n ds)
 
 -- the table of all classes of a document
 abbrev pub table_in : Data → List Class
-table_in d = table_before (list_in (codes "classes") d) MOST_CLASSES
+table_in d = table_before (version_in d) (list_in (codes "classes") d) MOST_CLASSES

@@ -3,7 +3,7 @@ use Rattle.std.specs.Prelude.{◌≡◌, ◌≢◌, ◌<◌, ◌&&◌, false, �
 use Rattle.std.specs.Prelude.{None, option_and_then, codes}
 use Rattle.serde_json.specs.Data.{Data, Items, no_items}
 use Rattle.serde_json.specs.Find.{get, at, get_item, as_array, as_number, as_str, as_u64}
-use Rattle.dv_forms.specs.declared.versions.TheConstants.{BODIES_SINCE, LAST_VERSION}
+use Rattle.dv_forms.specs.declared.versions.TheConstants.{BODIES_SINCE, COOPERATORS_SINCE, LAST_VERSION}
 use Rattle.dv_forms.specs.declared.want.Want.{Want}
 use Rattle.dv_forms.specs.declared.want.Want.TheVariants as want
 use Rattle.dv_forms.specs.declared.want.Keyed.TheVariants as keyed
@@ -53,3 +53,8 @@ PoolsDistinct d = nat_eq (version_in d) 1 ≡ false → AreDistinct (list_in (co
 -- no two bodies have the same name, where the version may name bodies
 abbrev pub BodiesDistinct : Data → Type 0
 BodiesDistinct d = nat_lt (version_in d) BODIES_SINCE ≡ false → AreDistinct (list_in (codes "bodies") d)
+
+-- no two Cooperators have the same name, where the version may name Cooperators
+abbrev pub CooperatorsDistinct : Data → Type 0
+CooperatorsDistinct d =
+    nat_lt (version_in d) COOPERATORS_SINCE ≡ false → AreDistinct (list_in (codes "cooperators") d)

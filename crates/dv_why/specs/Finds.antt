@@ -9,7 +9,7 @@ use Rattle.dv_why.specs.declared.classes.Table.{Table}
 use Rattle.dv_why.specs.declared.classes.Table.TheVariants.{Whole, Wrong}
 use Rattle.dv_why.specs.Places.{at_place, want_at}
 use Rattle.dv_why.specs.Fits.{suits}
-use Rattle.dv_why.specs.Documents.{list_in, script_in}
+use Rattle.dv_why.specs.Documents.{list_in, script_in, version_in}
 use Rattle.dv_script.specs.declared.limits.TheConstants.{MOST_LEVELS}
 use Rattle.dv_why.specs.AllSuit.{AllSuit}
 use Rattle.dv_why.specs.Declaring.{AllMayDeclare, table_in}
@@ -32,5 +32,5 @@ Misfits q d m =
 
 -- the table of a document, of which each class may be declared, or a class that may not
 abbrev pub IsTableOf : Data → Table → Type 0
-IsTableOf d (Whole classes) = (classes ≡ table_in d) × AllMayDeclare (list_in (codes "classes") d)
+IsTableOf d (Whole classes) = (classes ≡ table_in d) × AllMayDeclare (version_in d) (list_in (codes "classes") d)
 IsTableOf d (Wrong m expected) = Leads (script_in d) d m × IsBadClass d m

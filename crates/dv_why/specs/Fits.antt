@@ -11,7 +11,8 @@ use Rattle.serde_json.specs.declared.value.Value.{Value}
 use Rattle.dv_forms.specs.Forms.{is_first_error}
 use Rattle.dv_forms.specs.Parts.{empty_at, text_at, integer_at, number_at, bound_at, list_flag_at, gather_flag_at}
 use Rattle.dv_questions.specs.Asking.{count}
-use Rattle.dv_questions.specs.Questions.{has_object, is_body, is_known, is_named, is_pool, object_stands}
+use Rattle.dv_questions.specs.Questions.{has_object, is_body, is_cooperator, is_known, is_named, is_pool}
+use Rattle.dv_questions.specs.Questions.{object_stands}
 use Rattle.dv_forms.specs.declared.want.Leaf.{Leaf}
 use Rattle.dv_forms.specs.declared.want.Leaf.TheVariants as leaf
 use Rattle.dv_forms.specs.declared.want.Object.TheVariants as of_object
@@ -150,6 +151,7 @@ name_suits (question.Names version) l name = is_named version l name
 name_suits (question.Classes classes) l name = is_known classes.now l name
 name_suits (question.Pools pools) l name = not (is_pool l) || is_declared pools.now name
 name_suits (question.Bodies bodies) l name = not (is_body l) || is_declared bodies.now name
+name_suits (question.Cooperators cooperators) l name = not (is_cooperator l) || is_declared cooperators.now name
 
 -- whether a leaf is what is looked for, where it is a text
 abbrev pub leaf_suits : Question → Leaf → Option (List ℕ) → Bool
@@ -181,3 +183,4 @@ suits (question.Names version) w d = names_suit (question.Names version) w d
 suits (question.Classes classes) w d = names_suit (question.Classes classes) w d
 suits (question.Pools pools) w d = names_suit (question.Pools pools) w d
 suits (question.Bodies bodies) w d = names_suit (question.Bodies bodies) w d
+suits (question.Cooperators cooperators) w d = names_suit (question.Cooperators cooperators) w d

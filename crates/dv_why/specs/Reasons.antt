@@ -6,9 +6,10 @@ use Rattle.dv_grammar.specs.Grammar.{IsScript}
 use Rattle.dv_reader.specs.declared.error.ScriptFault.{ScriptFault}
 use Rattle.dv_reader.specs.declared.error.ScriptFault.TheVariants.{TooLong, NotJson, BadVersion, BadShape, TooMany}
 use Rattle.dv_reader.specs.declared.error.ScriptFault.TheVariants.{BadName, BadClass, OutOfMemory, BadPool, BadBody}
+use Rattle.dv_reader.specs.declared.error.ScriptFault.TheVariants.{BadCooperator}
 use Rattle.dv_reader.specs.Limits.{is_small}
 use Rattle.dv_reader.specs.Refusal.{HasVersion, IsMisshapen, keeps_version, are_named, are_known, are_pooled}
-use Rattle.dv_reader.specs.Refusal.{have_bodies}
+use Rattle.dv_reader.specs.Refusal.{have_bodies, have_cooperators}
 
 -- a document has the shape of this script
 pub record HasShapeOf (d : Data) (draft : Draft) : Type 0 where
@@ -33,3 +34,7 @@ IsRefusedFor BadPool d =
 IsRefusedFor BadBody d =
     (draft : Draft) × HasShapeOf d draft × (is_small d draft ≡ true) × (are_named d draft ≡ true)
     × (are_known d draft ≡ true) × (are_pooled d draft ≡ true) × (have_bodies d draft ≡ false)
+IsRefusedFor BadCooperator d =
+    (draft : Draft) × HasShapeOf d draft × (is_small d draft ≡ true) × (are_named d draft ≡ true)
+    × (are_known d draft ≡ true) × (are_pooled d draft ≡ true) × (have_bodies d draft ≡ true)
+    × (have_cooperators d draft ≡ false)

@@ -11,6 +11,7 @@ use Rattle.dv_script.specs.declared.script.Script.{Script}
 use Rattle.dv_reader.specs.declared.error.ScriptFault.{ScriptFault}
 use Rattle.dv_reader.specs.declared.error.ScriptFault.TheVariants.{TooLong, NotJson, BadVersion, BadShape, TooMany}
 use Rattle.dv_reader.specs.declared.error.ScriptFault.TheVariants.{BadName, BadClass, OutOfMemory, BadPool, BadBody}
+use Rattle.dv_reader.specs.declared.error.ScriptFault.TheVariants.{BadCooperator}
 use Rattle.dv_reader.specs.Refusal.{Says, Refuses}
 use Rattle.dv_reader.specs.Texts.{refusal_name, refusal_number}
 use Rattle.dv_why.specs.declared.line.TheConstants.{MOST_SHOWN}
@@ -95,6 +96,7 @@ IsToldOf BadClass bytes told = TellsOfJson BadClass bytes told
 IsToldOf OutOfMemory bytes told = TellsOfJson OutOfMemory bytes told
 IsToldOf BadPool bytes told = TellsOfJson BadPool bytes told
 IsToldOf BadBody bytes told = TellsOfJson BadBody bytes told
+IsToldOf BadCooperator bytes told = TellsOfJson BadCooperator bytes told
 
 -- the line is the JSON text of this
 abbrev pub Reads : List ℕ → (Data → Type 0) → Type 0

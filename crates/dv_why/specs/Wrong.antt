@@ -5,14 +5,16 @@ use Rattle.serde_json.specs.Find.{get, as_str}
 use Rattle.serde_json.specs.View.{view}
 use Rattle.dv_value.specs.declared.classes.Class.{Class}
 use Rattle.dv_value.specs.Classes.{find_class}
-use Rattle.dv_script.specs.declared.limits.TheConstants.{MOST_BODIES, MOST_CALLERS, MOST_CLASSES, MOST_POOLS}
+use Rattle.dv_script.specs.declared.limits.TheConstants.{MOST_BODIES, MOST_CALLERS, MOST_CLASSES, MOST_COOPERATORS}
+use Rattle.dv_script.specs.declared.limits.TheConstants.{MOST_POOLS}
 use Rattle.dv_script.specs.declared.limits.TheConstants.{MOST_POSTS}
 use Rattle.dv_clock.specs.declared.limits.TheConstants.{MOST_TICKS}
 use Rattle.dv_forms.specs.Limits.{most_nodes}
-use Rattle.dv_reader.specs.Limits.{nodes}
+use Rattle.dv_reader.specs.Limits.{all_nodes}
 use Rattle.dv_reader.specs.declared.error.ScriptFault.{ScriptFault}
 use Rattle.dv_reader.specs.declared.error.ScriptFault.TheVariants.{TooLong, NotJson, BadVersion, BadShape, TooMany}
 use Rattle.dv_reader.specs.declared.error.ScriptFault.TheVariants.{BadName, BadClass, OutOfMemory, BadPool, BadBody}
+use Rattle.dv_reader.specs.declared.error.ScriptFault.TheVariants.{BadCooperator}
 use Rattle.dv_forms.specs.declared.want.Keyed.TheVariants as keyed
 use Rattle.dv_forms.specs.declared.want.Leaf.{Leaf}
 use Rattle.dv_forms.specs.declared.want.Leaf.TheVariants as leaf_of
@@ -21,7 +23,7 @@ use Rattle.dv_forms.specs.declared.want.Want.{Want}
 use Rattle.dv_forms.specs.declared.want.Want.TheVariants as want
 use Rattle.dv_why.specs.declared.misfit.Misfit.{Misfit}
 use Rattle.dv_why.specs.Places.{Part, to_item, to_key, path_of, path_to}
-use Rattle.dv_forms.specs.Wants.{a_class, a_pool}
+use Rattle.dv_forms.specs.Wants.{a_class, a_cooperator, a_pool}
 use Rattle.dv_why.specs.Documents.{version_in, list_in, name_in}
 use Rattle.dv_why.specs.Counts.{count_in, posts_of, ticks_in}
 use Rattle.dv_why.specs.Declaring.{table_before, table_in}
@@ -46,11 +48,13 @@ IsMisshaped d m = fits (version_in d) m.want (view m.found.now) ≡ false
 
 -- TooMany: there is too much of what stands there
 pub data IsTooMuch (d : Data) (m : Misfit) : Type 0 where
-  -- of nodes in the whole, by its version
-  many_nodes : IsAt [] m → most_nodes (version_in d) < nodes d → IsTooMuch d m
+  -- of nodes in the whole, with those that its repeats add, by its version
+  many_nodes : IsAt [] m → most_nodes (version_in d) < all_nodes d → IsTooMuch d m
   many_classes : IsAt (to_key (codes "classes") ∷ []) m → MOST_CLASSES < count_in (codes "classes") d → IsTooMuch d m
   many_pools : IsAt (to_key (codes "pools") ∷ []) m → MOST_POOLS < count_in (codes "pools") d → IsTooMuch d m
   many_bodies : IsAt (to_key (codes "bodies") ∷ []) m → MOST_BODIES < count_in (codes "bodies") d → IsTooMuch d m
+  many_cooperators : IsAt (to_key (codes "cooperators") ∷ []) m → MOST_COOPERATORS < count_in (codes "cooperators") d
+      → IsTooMuch d m
   many_callers : IsAt (to_key (codes "callers") ∷ []) m → MOST_CALLERS < count_in (codes "callers") d → IsTooMuch d m
   -- of posts of a caller
   many_posts : (n : ℕ) → IsAt (to_key (codes "callers") ∷ to_item n ∷ []) m → MOST_POSTS < posts_of n d → IsTooMuch d m
@@ -84,7 +88,8 @@ pub data IsUndeclarable (table : List Class) (path : List Part) (m : Misfit) : T
 -- BadClass: a class may not be declared after those before it, or a class is used that isn't in the table of all
 pub data IsBadClass (d : Data) (m : Misfit) : Type 0 where
   undeclarable : (n : ℕ)
-      → IsUndeclarable (table_before (list_in (codes "classes") d) n) (to_key (codes "classes") ∷ to_item n ∷ []) m
+      → IsUndeclarable (table_before (version_in d) (list_in (codes "classes") d) n)
+      (to_key (codes "classes") ∷ to_item n ∷ []) m
       → IsBadClass d m
   unknown_class : (name : List ℕ) → m.want ≡ a_class → HasText name m → find_class name (table_in d) ≡ None
       → IsBadClass d m
@@ -111,6 +116,13 @@ pub data IsBadBody (d : Data) (m : Misfit) : Type 0 where
   unknown_body : (name : List ℕ) → AsksFor a_named_body m.want → HasText name m
       → ((n : ℕ) → name_in n (list_in (codes "bodies") d) ≢ Some name) → IsBadBody d m
 
+-- BadCooperator: a Cooperator has the name of one before it, or a Cooperator is used whose name none has
+pub data IsBadCooperator (d : Data) (m : Misfit) : Type 0 where
+  declared_twice : IsGivenTwice (list_in (codes "cooperators") d) (to_key (codes "cooperators") ∷ []) m
+      → IsBadCooperator d m
+  unknown_cooperator : (name : List ℕ) → m.want ≡ a_cooperator → HasText name m
+      → ((n : ℕ) → name_in n (list_in (codes "cooperators") d) ≢ Some name) → IsBadCooperator d m
+
 -- what is wrong where a script is refused so
 abbrev pub IsWrong : ScriptFault → Data → Misfit → Type 0
 IsWrong TooLong d m = ⊤
@@ -123,3 +135,4 @@ IsWrong BadClass d m = IsBadClass d m
 IsWrong OutOfMemory d m = ⊤
 IsWrong BadPool d m = IsBadPool d m
 IsWrong BadBody d m = IsBadBody d m
+IsWrong BadCooperator d m = IsBadCooperator d m

@@ -10,8 +10,10 @@ ghost use Rattle.dv_why.specs.Places.{to_item};
 ghost use Rattle.dv_forms.specs.Wants.{all_classes, one_class};
 ghost use Rattle.dv_why.specs.Wrong.{IsUndeclarable};
 
+use crate::document::version_of;
 use crate::expected::Expected;
 use crate::misfit::{Misfit, Step};
+use dv_forms::table::first_classes;
 use dv_forms::want::{Leaf, Object, Want};
 use dv_script::limits::MOST_CLASSES;
 use dv_value::class_fault::ClassFault;
@@ -31,7 +33,7 @@ pub enum Table<'j> {
 pub fn make_table(alloc: Global, json: &Json) -> Result<Table<'_>, AllocError>
     ensures { IfOk result (λ table. IsTableOf (view json.now) table) }
 {
-    let mut classes = Classes::builtin(alloc)?;
+    let mut classes = first_classes(alloc, version_of(json))?;
     if let Some(declared) = json.get("classes") {
         for number in 0..MOST_CLASSES {
             if let Some((part, expected)) = declare_next(alloc, &mut classes, declared, number)? {

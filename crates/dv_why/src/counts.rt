@@ -2,11 +2,13 @@
 
 ghost use Rattle.std.specs.Prelude.{◌≡◌, ◌∷◌, ◌^◌, ◌-◌, ◌≤◌, ◌<◌, ℕ, [], None, IfOk, IfSome, min};
 ghost use Rattle.std.specs.Prelude.{nat_lt, codes};
+ghost use Rattle.serde_json.specs.Data.{depth};
 ghost use Rattle.serde_json.specs.Find.{as_array};
 ghost use Rattle.serde_json.specs.View.{view, items_view};
 ghost use Rattle.dv_script.specs.declared.limits.TheConstants.{MOST_POSTS};
 ghost use Rattle.dv_reader.specs.declared.error.ScriptFault.TheVariants.{TooMany};
-ghost use Rattle.dv_why.specs.Counts.{count_at, count_in, posts_of, ticks_among, ticks_at};
+ghost use Rattle.dv_why.specs.Counts.{all_ticks, count_at, count_in, listed_ticks, posts_of};
+ghost use Rattle.dv_why.specs.Counts.{ticks_among, ticks_at};
 ghost use Rattle.dv_why.specs.Documents.{list_in, or_no_items, script_in};
 ghost use Rattle.dv_why.specs.Finds.{Leads};
 ghost use Rattle.dv_why.specs.Places.{to_item, to_key};
@@ -19,13 +21,16 @@ use crate::document::{value_of, version_of, whole};
 use crate::expected::Expected;
 use crate::misfit::{Misfit, Step};
 use dv_clock::limits::MOST_TICKS;
+use dv_forms::repeat::repeat_of;
 use dv_forms::want::Item;
 use dv_reader::limits::has_few_nodes;
-use dv_script::limits::{MOST_BODIES, MOST_CALLERS, MOST_CLASSES, MOST_POOLS, MOST_POSTS};
+use dv_script::limits::{
+    MOST_BODIES, MOST_CALLERS, MOST_CLASSES, MOST_COOPERATORS, MOST_LEVELS, MOST_POOLS, MOST_POSTS,
+};
 use serde_json::Value as Json;
 use std::alloc::{AllocError, Global};
 
-/// By how many ticks an event advances the clock.
+/// By how many ticks an event that is no repeat advances the clock.
 fn ticks_of(event: &Json) -> u64
     ensures { result ≡ ticks_at (view event.now) }
 {
@@ -39,15 +44,42 @@ fn ticks_of(event: &Json) -> u64
     }
 }
 
-/// By how many ticks the events advance the clock, to the last number of 64 bits.
-fn ticks_in(events: &[Json]) -> u64
-    ensures { result ≡ min (ticks_among (items_view events.now)) (2 ^ 64 - 1) }
+/// By how many ticks an item of an array of events advances the clock, in which repeats nest to
+/// `levels`, to the last number of 64 bits.
+#[cycle(ticks)]
+#[tactic(auto, using(dv_reader::proofs::Cutting::cut_times))]
+fn listed_ticks(levels: u32, event: &Json) -> u64
+    ensures { result ≡ min (listed_ticks (ticks_among levels) (view event.now)) (2 ^ 64 - 1) }
+{
+    match repeat_of(event) {
+        Some((times, events)) => times.saturating_mul(ticks_among(levels, events)),
+        None => ticks_of(event),
+    }
+}
+
+#[cycle(ticks)]
+fn all_ticks(levels: u32, events: &[Json]) -> u64
+    ensures { result ≡ min (all_ticks (listed_ticks (ticks_among levels)) (items_view events.now))
+        (2 ^ 64 - 1) }
 {
     let mut total = 0u64;
     for event in events {
-        total = total.saturating_add(ticks_of(event));
+        total = total.saturating_add(listed_ticks(levels, event));
     }
     total
+}
+
+/// By how many ticks the events advance the clock, in which repeats nest to `levels`, to the last
+/// number of 64 bits.
+#[cycle(ticks)]
+#[tactic(auto, unfolding(crate::specs::Counts::ticks_among))]
+fn ticks_among(levels: u32, events: &[Json]) -> u64
+    ensures { result ≡ min (ticks_among levels (items_view events.now)) (2 ^ 64 - 1) }
+{
+    if levels == 0 {
+        return 0;
+    }
+    all_ticks(levels - 1, events)
 }
 
 /// The items of the array of a key, or none where there is no such array.
@@ -124,7 +156,8 @@ fn busy_one(alloc: Global, json: &Json) -> Result<Option<Misfit<'_>>, AllocError
 /// The first list of a script of which there is too much, or the whole script, and what is
 /// expected.
 pub fn too_many(alloc: Global, json: &Json) -> Result<(Misfit<'_>, Expected), AllocError>
-    requires { IsRefusedFor TooMany (view json.now) }
+    requires refused { IsRefusedFor TooMany (view json.now) }
+    requires shallow { depth (view json.now) ≤ MOST_LEVELS }
     ensures leads { IfOk result (λ found. Leads (script_in (view json.now))
         (view json.now) found.0) }
     ensures wrong { IfOk result (λ found. IsTooMuch (view json.now) found.0) }
@@ -142,13 +175,19 @@ pub fn too_many(alloc: Global, json: &Json) -> Result<(Misfit<'_>, Expected), Al
     if is_long(json, "bodies", MOST_BODIES) {
         return Ok((value_of(alloc, json, "bodies")?, Expected::FewBodies));
     }
+    if is_long(json, "cooperators", MOST_COOPERATORS) {
+        return Ok((
+            value_of(alloc, json, "cooperators")?,
+            Expected::FewCooperators,
+        ));
+    }
     if is_long(json, "callers", MOST_CALLERS as usize) {
         return Ok((value_of(alloc, json, "callers")?, Expected::FewCallers));
     }
     if let Some(misfit) = busy_one(alloc, json)? {
         return Ok((misfit, Expected::FewPosts));
     }
-    if ticks_in(items_of(json, "events")) > MOST_TICKS {
+    if ticks_among(MOST_LEVELS, items_of(json, "events")) > MOST_TICKS {
         return Ok((value_of(alloc, json, "events")?, Expected::FewTicks));
     }
     Ok((whole(alloc, json), Expected::FewNodes(version)))

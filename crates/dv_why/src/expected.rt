@@ -12,7 +12,7 @@ use std::alloc::AllocError;
 /// The first version whose inline bodies have the statements finally, raise and caught.
 const FINALLY_SINCE: u32 = 3;
 
-/// The first version that has the event expect.
+/// The first version that has the events expect and repeat.
 const EXPECT_SINCE: u32 = 3;
 
 /// How the forms of a word are shown: most have one, and some two.
@@ -39,6 +39,8 @@ pub enum Expected {
     FreePool,
     /// A name that no body before has.
     FreeBody,
+    /// A name that no Cooperator before has.
+    FreeCooperator,
     /// An object with a version.
     Document,
     /// A text of so many bytes at most.
@@ -53,6 +55,8 @@ pub enum Expected {
     FewPools,
     /// So many named bodies at most.
     FewBodies,
+    /// So many named Cooperators at most.
+    FewCooperators,
     /// So many callers at most.
     FewCallers,
     /// So many posts at most.
@@ -91,6 +95,9 @@ fn found_text(version: u32, object: Object) -> &'static str {
         Object::Pool => pool_text(version),
         Object::Body => {
             "the name of a body that the key `bodies` declares: a text of 1 to 32 of A to Z, a to z, 0 to 9 and _, and after the first also -, . and :"
+        }
+        Object::Cooperator => {
+            "the name of a cooperator that the key `cooperators` declares: a text of 1 to 32 of A to Z, a to z, 0 to 9 and _, and after the first also -, . and :"
         }
         Object::Class => {
             "the name of a class: one that every script has, or one that the key `classes` declares"
@@ -191,7 +198,7 @@ fn event_word_text(version: u32) -> &'static str {
     if version < EXPECT_SINCE {
         "the word of an action, advance or drain"
     } else {
-        "the word of an action, advance, drain or expect"
+        "the word of an action, advance, drain, expect or repeat"
     }
 }
 
@@ -212,6 +219,8 @@ fn pair_text(pair: PairKind) -> &'static str {
         PairKind::Declaration => "a class: an array [NAME,PARENT] of two texts",
         PairKind::Pool => "a pool: an array [NAME,WORKERS] of a text and an integer from 0 to 16",
         PairKind::Body => "a named body: an array [NAME,BODY] of a text and a body",
+        PairKind::Cooperator =>
+            "a named cooperator: an array [NAME,COOPERATOR] of a text and a cooperator",
     }
 }
 
@@ -259,6 +268,7 @@ fn array_text(item: Item) -> &'static str {
         Item::Pool => "an array of pools [NAME,WORKERS]",
         Item::Place => "an array of places in lists, each an integer from 0 to 1000000",
         Item::NamedBody => "an array of named bodies [NAME,BODY]",
+        Item::NamedCooperator => "an array of named cooperators [NAME,COOPERATOR]",
     }
 }
 
@@ -304,7 +314,7 @@ fn script_keys_text(version: u32) -> &'static str {
             "no such key: a script of version 2 has version, events, limit, classes, cooperator, pools and callers"
         }
         _ => {
-            "no such key: a script of version 3 has version, events, limit, classes, cooperator, pools, bodies, callers and comment"
+            "no such key: a script of version 3 has version, events, limit, classes, cooperator, cooperators, pools, bodies, callers and comment"
         }
     }
 }
@@ -320,7 +330,7 @@ fn write_few_nodes(text: &mut String, version: u32) -> Result<(), AllocError> {
     let most = most_nodes(version);
     write!(
         text,
-        "{most} nodes at most, of which each array, object, text, number, boolean and null is one"
+        "{most} nodes at most, of which each array, object, text, number, boolean and null is one, with those that repeats add"
     )
 }
 
@@ -345,6 +355,9 @@ impl Expected {
             ),
             Expected::FreePool => text.push_str("the name of a pool that no pool before it has"),
             Expected::FreeBody => text.push_str("the name of a body that no body before it has"),
+            Expected::FreeCooperator => {
+                text.push_str("the name of a cooperator that no cooperator before it has")
+            }
             Expected::Document => text.push_str("a script: an object that has the key `version`"),
             Expected::Short => text.push_str(
                 "a text of 1048576 bytes at most, or JSON of version 3 of 67108864 bytes at most",
@@ -354,6 +367,7 @@ impl Expected {
             Expected::FewClasses => text.push_str("256 classes at most"),
             Expected::FewPools => text.push_str("4 pools at most"),
             Expected::FewBodies => text.push_str("256 named bodies at most"),
+            Expected::FewCooperators => text.push_str("256 named cooperators at most"),
             Expected::FewCallers => text.push_str("8 callers at most"),
             Expected::FewPosts => text.push_str("256 posts of a caller at most"),
             Expected::FewTicks => { text.push_str("advances that sum to 1000000000000000 at most") }

@@ -4,6 +4,7 @@
 
 mod bodies;
 mod classes;
+mod cooperators;
 mod counts;
 mod document;
 pub mod expected;

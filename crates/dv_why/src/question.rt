@@ -6,7 +6,7 @@ ghost use Rattle.dv_why.specs.Fits.{body_name_suits, names_suit, suits};
 
 use crate::fits::fits;
 use dv_forms::want::{Keyed, Leaf, Object, Want};
-use dv_questions::question::{is_body, is_known, is_named, is_pool};
+use dv_questions::question::{is_body, is_cooperator, is_known, is_named, is_pool};
 use dv_value::classes::Classes;
 use serde_json::Value as Json;
 
@@ -23,6 +23,8 @@ pub enum Question<'q> {
     Pools(&'q [Json]),
     /// A body that isn't among these.
     Bodies(&'q [Json]),
+    /// A Cooperator that isn't among these.
+    Cooperators(&'q [Json]),
 }
 
 fn has_name(name: &str, array: &Json) -> bool
@@ -53,6 +55,9 @@ fn name_suits(question: Question<'_>, leaf: Leaf, name: &str) -> bool
         Question::Classes(classes) => is_known(classes, leaf, name),
         Question::Pools(pools) => !is_pool(leaf) || is_declared(pools, name),
         Question::Bodies(bodies) => !is_body(leaf) || is_declared(bodies, name),
+        Question::Cooperators(cooperators) => {
+            !is_cooperator(leaf) || is_declared(cooperators, name)
+        }
     }
 }
 
@@ -95,8 +100,10 @@ pub fn suits(question: Question<'_>, want: Want, json: &Json) -> bool
 {
     match question {
         Question::Shape(version) => fits(version, want, json),
-        Question::Names(_) | Question::Classes(_) | Question::Pools(_) | Question::Bodies(_) => {
-            names_suit(question, want, json)
-        }
+        Question::Names(_)
+        | Question::Classes(_)
+        | Question::Pools(_)
+        | Question::Bodies(_)
+        | Question::Cooperators(_) => names_suit(question, want, json),
     }
 }

@@ -6,8 +6,9 @@ ghost use Rattle.dv_reader.specs.Refusal.{Refuses};
 ghost use Rattle.dv_reader.specs.declared.error.ScriptFault.TheVariants.{NotJson, BadVersion};
 ghost use Rattle.dv_reader.specs.declared.error.ScriptFault.TheVariants.{BadShape, BadName};
 ghost use Rattle.dv_reader.specs.declared.error.ScriptFault.TheVariants.{BadClass, BadPool};
-ghost use Rattle.dv_reader.specs.declared.error.ScriptFault.TheVariants.{BadBody};
-ghost use Rattle.dv_why.specs.Documents.{BodiesDistinct, PoolsDistinct, list_in, script_in};
+ghost use Rattle.dv_reader.specs.declared.error.ScriptFault.TheVariants.{BadBody, BadCooperator};
+ghost use Rattle.dv_why.specs.Documents.{BodiesDistinct, CooperatorsDistinct, PoolsDistinct};
+ghost use Rattle.dv_why.specs.Documents.{list_in, script_in};
 ghost use Rattle.dv_why.specs.Finds.{IsTableOf, Leads, Misfits};
 ghost use Rattle.dv_why.specs.Reasons.{IsRefusedFor};
 ghost use Rattle.dv_why.specs.Why.{accepted, first_characters, refused, refused_text, Shows};
@@ -16,6 +17,7 @@ ghost use Rattle.dv_why.specs.Wrong.{IsAtVersion, IsWrong};
 
 use crate::bodies::second_body;
 use crate::classes::{Table, make_table};
+use crate::cooperators::second_cooperator;
 use crate::counts::{items_of, too_many};
 use crate::document::{script_of, value_of, version_of, whole};
 use crate::expected::Expected;
@@ -83,7 +85,8 @@ fn refusal(alloc: Global, fault: ScriptFault, bytes: &[u8]) -> Result<Json, Allo
         | ScriptFault::BadClass
         | ScriptFault::OutOfMemory
         | ScriptFault::BadPool
-        | ScriptFault::BadBody => of_json(alloc, fault, bytes),
+        | ScriptFault::BadBody
+        | ScriptFault::BadCooperator => of_json(alloc, fault, bytes),
     }
 }
 
@@ -229,6 +232,7 @@ fn misfit_of(
         ScriptFault::BadClass => bad_class(alloc, json),
         ScriptFault::BadPool => bad_pool(alloc, json),
         ScriptFault::BadBody => bad_body(alloc, json),
+        ScriptFault::BadCooperator => bad_cooperator(alloc, json),
         ScriptFault::TooLong | ScriptFault::NotJson | ScriptFault::OutOfMemory => Ok((
             whole(alloc, json),
             Expected::Wanted(version_of(json), script_of(json)),
@@ -366,4 +370,31 @@ fn unknown_body<'j>(
     ensures { IfOk result (λ found. Explains BadBody (view json.now) found.0) }
 {
     in_script(alloc, Question::Bodies(bodies), json)
+}
+
+fn bad_cooperator(alloc: Global, json: &Json) -> Result<(Misfit<'_>, Expected), AllocError>
+    requires refused { IsRefusedFor BadCooperator (view json.now) }
+    requires shallow { depth (view json.now) ≤ MOST_LEVELS }
+    ensures { IfOk result (λ found. Explains BadCooperator (view json.now) found.0) }
+{
+    match second_cooperator(alloc, json)? {
+        Some(misfit) => Ok((misfit, Expected::FreeCooperator)),
+        None => unknown_cooperator(alloc, items_of(json, "cooperators"), json),
+    }
+}
+
+/// The first Cooperator that is used by its name and isn't among those of the document.
+fn unknown_cooperator<'j>(
+    alloc: Global,
+    cooperators: &[Json],
+    json: &'j Json,
+) -> Result<(Misfit<'j>, Expected), AllocError>
+    requires refused { IsRefusedFor BadCooperator (view json.now) }
+    requires shallow { depth (view json.now) ≤ MOST_LEVELS }
+    requires once { CooperatorsDistinct (view json.now) }
+    requires cooperators { items_view cooperators.now
+        ≡ list_in (codes "cooperators") (view json.now) }
+    ensures { IfOk result (λ found. Explains BadCooperator (view json.now) found.0) }
+{
+    in_script(alloc, Question::Cooperators(cooperators), json)
 }

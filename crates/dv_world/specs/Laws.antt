@@ -1,11 +1,9 @@
 -- What holds of every task.
 use Rattle.std.specs.Prelude.{◌≡◌, ℕ, List, [], Option, Some, None, slice_get}
 use Rattle.std.specs.Option.{option_map_or}
-use Rattle.dv_journal.specs.declared.entry.Entry.TheVariants as entry
 use Rattle.dv_script.specs.declared.body.Body.{Body}
-use Rattle.dv_objects.specs.Cooperator.{with_new_task}
-use Rattle.dv_objects.specs.Objects.{cooperating}
-use Rattle.dv_world.specs.World.{World, aside, take_step, pause_task, resume_task, hold_task, await_task, end_task}
+use Rattle.dv_world.specs.World.{World, new_task, new_task_in, take_step, pause_task, resume_task, hold_task}
+use Rattle.dv_world.specs.World.{await_task, end_task}
 use Rattle.dv_objects.specs.declared.task.Task.{Task}
 use Rattle.dv_objects.specs.declared.task.TaskEnd.{TaskEnd}
 
@@ -14,15 +12,17 @@ abbrev pub end_in : ℕ → List Task → Option TaskEnd
 end_in t tasks = option_map_or (λ x. x.end) (slice_get tasks t) None
 
 abbrev pub end_of : ℕ → World → Option TaskEnd
-end_of t w = end_in t w.objects.cooperator.tasks
+end_of t w = end_in t w.objects.cooperators.tasks
 
 -- what comes of a world, whatever is done with its tasks, and whatever is done that leaves them as they are
 pub data Becomes (w : World) : World → Type 0 where
   Same : Becomes w w
-  Elsewhere : (v u : World) → u.objects.cooperator.tasks ≡ v.objects.cooperator.tasks → Becomes w v → Becomes w u
+  Elsewhere : (v u : World) → u.objects.cooperators.tasks ≡ v.objects.cooperators.tasks → Becomes w v → Becomes w u
   Makes : (v : World) (name : List ℕ) (bodies : List Body) → Becomes w v
-      → Becomes w (aside (entry.Task name) (cooperating (with_new_task name bodies)) v)
-  Steps : (v : World) → Becomes w v → Becomes w (take_step v).1
+      → Becomes w (new_task name bodies v)
+  MakesIn : (v : World) (k : ℕ) (name of : List ℕ) (bodies : List Body) → Becomes w v
+      → Becomes w (new_task_in k name of bodies v)
+  Steps : (v : World) (k : ℕ) → Becomes w v → Becomes w (take_step k v).1
   Pauses : (v : World) (t : ℕ) → Becomes w v → Becomes w (pause_task t v)
   Resumes : (v : World) (t : ℕ) → Becomes w v → Becomes w (resume_task t v)
   Holds : (v : World) (t e : ℕ) → Becomes w v → Becomes w (hold_task t e v)

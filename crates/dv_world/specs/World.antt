@@ -13,8 +13,7 @@ use Rattle.dv_journal.specs.declared.entry.Entry.{Entry}
 use Rattle.dv_journal.specs.declared.entry.Entry.TheVariants as entry
 use Rattle.dv_journal.specs.declared.error.Stop.{Stop}
 use Rattle.dv_clock.specs.Clock.{Upcoming, next_call, has_run, new_due}
-use Rattle.dv_clock.specs.Due.{entry_when_due}
-use Rattle.dv_clock.specs.Turns.{turn_of}
+use Rattle.dv_clock.specs.Due.{scheduling, entry_when_due}
 use Rattle.dv_clock.specs.declared.call.Call.{Call}
 use Rattle.dv_clock.specs.declared.call.CallState.{CallState}
 use Rattle.dv_clock.specs.declared.call.CallState.TheVariants as call_state
@@ -25,6 +24,7 @@ use Rattle.dv_clock.specs.declared.limits.TheConstants.{MOST_TICKS, MOST_DELAY}
 use Rattle.dv_script.specs.declared.body.Body.{Body}
 use Rattle.dv_script.specs.declared.script.Cooperator.{Cooperator as Settings}
 use Rattle.dv_script.specs.declared.script.NamedBody.{NamedBody}
+use Rattle.dv_script.specs.declared.script.NamedCooperator.{NamedCooperator}
 use Rattle.dv_script.specs.declared.work.Work.{Work}
 use Rattle.dv_prims.specs.DeferredList.{Gather, child_fired}
 use Rattle.dv_prims.specs.Queue.{Queue, may_put, receiver, put_to, got_from, withdrawn}
@@ -46,7 +46,9 @@ use Rattle.dv_store.specs.declared.store.Fired.{Fired}
 use Rattle.dv_store.specs.declared.store.Fired.TheVariants.{Set, Swallowed}
 use Rattle.dv_store.specs.declared.store.Step.{Step}
 use Rattle.dv_store.specs.declared.store.Step.TheVariants.{Nothing}
-use Rattle.dv_objects.specs.Cooperator.{Cooperator, with_step, with_pause, with_resume, with_end, with_waiting}
+use Rattle.dv_objects.specs.Cooperator.{Cooperator, Cooperators, changed, cooperator_named, halted, tick_of}
+use Rattle.dv_objects.specs.Cooperator.{turn_in, with_new_task, with_step, with_pause, with_resume, with_end, with_units}
+use Rattle.dv_objects.specs.Cooperator.{with_waiting}
 use Rattle.dv_objects.specs.Cooperator.{result_of, unended, wants_tick, idle_tick}
 use Rattle.dv_inline.specs.Position.{Position}
 use Rattle.dv_objects.specs.Inlines.{resume_at, end_adding, now_waiting, awaited_by}
@@ -97,11 +99,11 @@ pub record World : Type 0 where
   pub stopped : Bool
 
 -- nothing is made and nothing is logged at first
-abbrev pub first_world : List Class → List NamedBody → ℕ → Settings → World
-first_world classes declared limit settings = record {
+abbrev pub first_world : List Class → List NamedBody → ℕ → Settings → List NamedCooperator → World
+first_world classes declared limit settings named = record {
   classes = classes;
   declared = declared;
-  objects = no_objects settings;
+  objects = no_objects settings named;
   works = [];
   pools = [];
   records = [];
@@ -397,6 +399,7 @@ waiting_cancelled number (what.Call name key) w =
     aside (entry.Uncall name) (with_ended_call number call_state.Cancelled) w
 waiting_cancelled number (what.Turn name key) w = w
 waiting_cancelled number what.Tick w = w
+waiting_cancelled number (what.TickIn name key) w = w
 waiting_cancelled number (what.Delivery job key) w = w
 waiting_cancelled number (what.Timeout d) w = w
 
@@ -424,6 +427,7 @@ waiting_reset number from delay due (what.Call name key) w =
     aside (entry.Reset name new) (with_moved_call number new) w
 waiting_reset number from delay due (what.Turn name key) w = w
 waiting_reset number from delay due what.Tick w = w
+waiting_reset number from delay due (what.TickIn name key) w = w
 waiting_reset number from delay due (what.Delivery job key) w = w
 waiting_reset number from delay due (what.Timeout d) w = w
 
@@ -468,27 +472,55 @@ end_loop l w = arrange (λ objects. with_ended l (slice_get objects.loops l) obj
 abbrev pub not_running : Failure
 not_running = plain_failure assertion_error (codes "not running")
 
+-- the Cooperator that the script names so
+abbrev pub cooperator_at : List ℕ → World → Option ℕ
+cooperator_at name w = cooperator_named name w.objects.cooperators
+
+-- the Cooperator of a number
+abbrev pub cooperator_of : ℕ → World → Option Cooperator
+cooperator_of k w = slice_get w.objects.cooperators.all k
+
+-- a task is made in the Cooperator that each script has, and takes turns in it
+abbrev pub new_task : List ℕ → List Body → World → World
+new_task name bodies w = aside (entry.Task name) (cooperating (with_new_task 0 name bodies)) w
+
+-- the same in a Cooperator that the script names
+abbrev pub new_task_in : ℕ → List ℕ → List ℕ → List Body → World → World
+new_task_in k name of bodies w = aside (entry.TaskIn name of) (cooperating (with_new_task k name bodies)) w
+
+-- each tick of the Cooperator that each script has takes so many steps from the next one on
+abbrev pub set_units : ℕ → World → World
+set_units units w = aside (entry.Units units) (cooperating (changed 0 (with_units units))) w
+
+-- the same of a Cooperator that the script names
+abbrev pub set_units_in : ℕ → List ℕ → ℕ → World → World
+set_units_in k name units w = aside (entry.UnitsIn name units) (cooperating (changed k (with_units units))) w
+
+-- a Cooperator that the script names is stopped
+abbrev pub halt : ℕ → List ℕ → World → World
+halt k name w = aside (entry.StopCooperator name) (cooperating (changed k halted)) w
+
 -- the task that is found changes, which its entry logs; an id of no task changes nothing
-abbrev pub task_told : (Task → Entry) → (Task → Cooperator → Cooperator) → Option Task → World → World
+abbrev pub task_told : (Task → Entry) → (Task → Cooperators → Cooperators) → Option Task → World → World
 task_told entry change None w = w
 task_told entry change (Some x) w = aside (entry x) (cooperating (change x)) w
 
 -- a task is paused once more
 abbrev pub pause_task : ℕ → World → World
-pause_task t w = task_told (λ x. entry.PauseTask x.name) (with_pause t) (slice_get w.objects.cooperator.tasks t) w
+pause_task t w = task_told (λ x. entry.PauseTask x.name) (with_pause t) (slice_get w.objects.cooperators.tasks t) w
 
 -- and once less
 abbrev pub resume_task : ℕ → World → World
-resume_task t w = task_told (λ x. entry.ResumeTask x.name) (with_resume t) (slice_get w.objects.cooperator.tasks t) w
+resume_task t w = task_told (λ x. entry.ResumeTask x.name) (with_resume t) (slice_get w.objects.cooperators.tasks t) w
 
 -- a task is paused until e is fired
 abbrev pub hold_task : ℕ → ℕ → World → World
-hold_task t e w = task_told (λ x. entry.Hold x.name e) (with_pause t) (slice_get w.objects.cooperator.tasks t) w
+hold_task t e w = task_told (λ x. entry.Hold x.name e) (with_pause t) (slice_get w.objects.cooperators.tasks t) w
 
 -- d waits for the end of a task, unless that has ended
 abbrev pub await_task : ℕ → ℕ → World → World
 await_task t d w =
-    task_told (λ x. entry.WhenDone x.name d) (with_waiting t d) (slice_get w.objects.cooperator.tasks t) w
+    task_told (λ x. entry.WhenDone x.name d) (with_waiting t d) (slice_get w.objects.cooperators.tasks t) w
 
 -- the task that is found takes the next step, and is returned with its next body
 abbrev pub step_taken : ℕ → Option Task → World → Option (ℕ × Option Body) × World
@@ -496,13 +528,13 @@ step_taken t None w = (None, w)
 step_taken t (Some x) w =
     unless_stopped (Some (t, slice_get x.bodies 0)) (aside (entry.Step x.name) (cooperating (with_step t x)) w)
 
--- the task whose turn it is takes the next step
+-- the task whose turn it is in a Cooperator takes the next step
 abbrev pub turn_taken : Option ℕ → World → Option (ℕ × Option Body) × World
 turn_taken None w = (None, w)
-turn_taken (Some t) w = step_taken t (slice_get w.objects.cooperator.tasks t) w
+turn_taken (Some t) w = step_taken t (slice_get w.objects.cooperators.tasks t) w
 
-abbrev pub take_step : World → Option (ℕ × Option Body) × World
-take_step w = turn_taken (turn_of w.objects.cooperator.turns) w
+abbrev pub take_step : ℕ → World → Option (ℕ × Option Body) × World
+take_step k w = turn_taken (turn_in (cooperator_of k w)) w
 
 -- these, unless the run has stopped
 abbrev pub all_unless_stopped : List ℕ → World → List ℕ × World
@@ -516,29 +548,34 @@ task_ended t end (Some x) w =
 
 -- a task ends, unless it has ended
 abbrev pub end_task : ℕ → TaskEnd → World → List ℕ × World
-end_task t end w = task_ended t end (unended (slice_get w.objects.cooperator.tasks t)) w
+end_task t end w = task_ended t end (unended (slice_get w.objects.cooperators.tasks t)) w
 
--- the next tick is scheduled
-abbrev pub schedule_tick : World → World
-schedule_tick w =
-    let due = w.objects.clock.time + w.objects.cooperator.delay in aside (entry.LaterTick due) (with_tick due) w
+-- the next tick of a Cooperator is scheduled
+abbrev pub schedule_tick : ℕ → Cooperator → World → World
+schedule_tick k c w =
+    let due = w.objects.clock.time + c.delay in
+    aside (scheduling (tick_of c.name k) due) (with_tick k (tick_of c.name k) due) w
 
--- a tick is dropped, where there is one
-abbrev pub tick_dropped : Option ℕ → World → World
-tick_dropped None w = w
-tick_dropped (Some number) w = arrange (without_tick number) w
+-- a tick of a Cooperator is dropped, where there is one
+abbrev pub tick_dropped : ℕ → Option ℕ → World → World
+tick_dropped k None w = w
+tick_dropped k (Some number) w = arrange (without_tick k number) w
 
--- outside of ticks, a tick is scheduled while a task takes turns, and none while none does
-abbrev pub keep_tick : World → World
-keep_tick w =
-    if wants_tick w.objects.cooperator then schedule_tick w else tick_dropped (idle_tick w.objects.cooperator) w
+-- of the Cooperator that is found
+abbrev pub tick_kept : ℕ → Option Cooperator → World → World
+tick_kept k None w = w
+tick_kept k (Some c) w = if wants_tick c then schedule_tick k c w else tick_dropped k (idle_tick c) w
 
--- a tick is under way, or none is any more
-abbrev pub begin_tick : World → World
-begin_tick w = arrange (cooperating (λ c. record c { tick = None; ticking = true })) w
+-- outside of ticks of a Cooperator, one is scheduled while a task takes turns in it, and none while none does
+abbrev pub keep_tick : ℕ → World → World
+keep_tick k w = tick_kept k (cooperator_of k w) w
 
-abbrev pub end_tick : World → World
-end_tick w = arrange (cooperating (λ c. record c { ticking = false })) w
+-- a tick of a Cooperator is under way, or none is any more
+abbrev pub begin_tick : ℕ → World → World
+begin_tick k w = arrange (cooperating (changed k (λ c. record c { tick = None; ticking = true }))) w
+
+abbrev pub end_tick : ℕ → World → World
+end_tick k w = arrange (cooperating (changed k (λ c. record c { ticking = false }))) w
 
 -- what the resuming of a task raises that isn't paused
 abbrev pub not_paused : Failure

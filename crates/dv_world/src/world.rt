@@ -9,7 +9,7 @@ use dv_journal::entry::Entry;
 use dv_journal::error::{Fault, Stop};
 use dv_journal::journal::Journal;
 use dv_objects::canceller::Canceller;
-use dv_objects::cooperator::Cooperator;
+use dv_objects::cooperators::Cooperators;
 use dv_objects::follow::Follow;
 use dv_objects::inlines::Inlines;
 use dv_objects::looping_call::LoopingCall;
@@ -28,7 +28,7 @@ use dv_prims::queue::Queue;
 use dv_prims::queue_id::QueueId;
 use dv_prims::semaphore::Semaphore;
 use dv_script::lent::{BodyRef, TextRef};
-use dv_script::script::{Cooperator as Settings, NamedBody};
+use dv_script::script::{Cooperator as Settings, NamedBody, NamedCooperator};
 use dv_store::error::{AlreadyCalled, NotPaused};
 use dv_store::record::Record;
 use dv_store::store::{Fired, Step, Store};
@@ -71,7 +71,7 @@ pub struct World<'s> {
     bodies: Vec<BodyRef<'s>>,
     loop_names: Names<LoopId>,
     loops: Vec<LoopingCall<'s>>,
-    cooperator: Cooperator<'s>,
+    cooperators: Cooperators<'s>,
     inlines: Inlines<'s>,
     works: Works<'s>,
     store: Store<Pair<'s>, Canceller<'s>>,
@@ -139,7 +139,7 @@ impl<'s> Model for World<'s> {
         bodies = w.bodies.items;
         loop_names = w.loop_names;
         loops = w.loops.items;
-        cooperator = w.cooperator;
+        cooperators = w.cooperators;
         inlines = w.inlines;
       };
       works = w.works.works;
@@ -164,8 +164,8 @@ impl<'s> World<'s> {
     ghost use Rattle.dv_journal.specs.declared.entry.Entry.TheVariants as entry;
 
     /// A world in which nothing is made, of a script with these classes and declared bodies, whose
-    /// journal takes so much weight, and whose Cooperator takes its steps so. Names are hashed with
-    /// these keys.
+    /// journal takes so much weight, whose Cooperator takes its steps so, and which names these
+    /// others. Names are hashed with these keys.
     pub fn new(
         alloc: Global,
         keys: RandomState,
@@ -173,12 +173,14 @@ impl<'s> World<'s> {
         declared: &'s [NamedBody],
         limit: u64,
         settings: Settings,
-    ) -> World<'s>
+        named: &'s [NamedCooperator],
+    ) -> Result<World<'s>, AllocError>
         requires { limit < 2 ^ 32 }
-        ensures { result ≡ first_world classes.now declared.now limit settings }
+        ensures { IfOk result (λ world. world
+            ≡ first_world classes.now declared.now limit settings named.now) }
     {
-        let Settings { units, delay } = settings;
-        World {
+        let cooperators = Cooperators::new(alloc, keys, settings, named)?;
+        Ok(World {
             alloc,
             classes,
             declared,
@@ -193,13 +195,13 @@ impl<'s> World<'s> {
             bodies: Vec::new(alloc),
             loop_names: Names::new(alloc, keys),
             loops: Vec::new(alloc),
-            cooperator: Cooperator::new(alloc, keys, units, delay),
+            cooperators,
             inlines: Inlines::new(alloc),
             works: Works::new(alloc),
             store: Store::new(alloc),
             journal: Journal::new(alloc, limit),
             stopped: false,
-        }
+        })
     }
 
     /// The classes of the script's failures.
@@ -802,7 +804,7 @@ impl<'s> World<'s> {
         ensures queues { result.queues.items ≡ self.entry.objects.queues }
         ensures calls { result.calls.items ≡ self.entry.objects.clock.calls }
         ensures loops { result.loops.items ≡ self.entry.objects.loops }
-        ensures tasks { result.tasks.items ≡ self.entry.objects.cooperator.tasks }
+        ensures tasks { result.tasks.items ≡ self.entry.objects.cooperators.tasks }
         ensures inlines { result.inlines ≡ self.entry.objects.inlines }
     {
         let World {
@@ -820,7 +822,7 @@ impl<'s> World<'s> {
             bodies: _,
             loop_names: _,
             loops,
-            cooperator,
+            cooperators,
             inlines,
             works: _,
             store,
@@ -835,7 +837,7 @@ impl<'s> World<'s> {
             queues,
             calls: clock.into_calls(),
             loops,
-            tasks: cooperator.into_tasks(),
+            tasks: cooperators.into_tasks(),
             inlines,
         }
     }

@@ -8,6 +8,7 @@ from dataclasses import dataclass
 from typing import Any, Dict, Iterator, List, Optional, Sequence
 
 from ..program import NotRun
+from ..repeats import written_out
 from ..view.facts import NotFacts, read_facts
 
 from .agreeing import Told, agreement
@@ -65,6 +66,9 @@ LEFT_KEYS: Dict[str, Sequence[str]] = {
     "unhandled": ("entry", "value"),
 }
 
+#: those that may be there beside them
+_MAY_HAVE: Dict[str, Sequence[str]] = {"tick": ("object",)}
+
 _ORDER = ("start", "entry", "deferred", "left", "end")
 _SECONDS = 60
 #: how much of a script is shown on which the program doesn't end
@@ -117,9 +121,16 @@ def _object(text: str) -> Told:
 def _check_keys(told: Told) -> None:
     """Each key stands once, in order, and they are those of the line's kind."""
     kind: str = told["type"]
-    keys = sorted(("kind", "type", *LEFT_KEYS[told["kind"]])) if kind == "left" else KEYS[kind]
+    keys = _left_keys(told) if kind == "left" else KEYS[kind]
     if list(told) != list(keys):
         raise Wrong(f"the keys of {told}")
+
+
+def _left_keys(told: Told) -> List[str]:
+    """The keys of what is left, in order."""
+    kind: str = told["kind"]
+    more = [key for key in _MAY_HAVE.get(kind, ()) if key in told]
+    return sorted(("kind", "type", *LEFT_KEYS[kind], *more))
 
 
 def _of_type(lines: Sequence[Told], kind: str) -> List[Told]:
@@ -198,7 +209,7 @@ def check_run(script: str, printed: Ran, told: Ran) -> List[Told]:
 
 def check_events(script: str, lines: Sequence[Told]) -> None:
     """Events come in order; an advance begins one of that kind, and a drain too."""
-    events: List[Any] = json.loads(script)["events"]
+    events: List[Any] = written_out(json.loads(script)["events"])
     last = 0
     for entry in _of_type(lines, "entry"):
         event: Optional[int] = entry["event"]

@@ -7,6 +7,8 @@ from typing import Any, Callable, Dict, List, Optional, Tuple, Type
 
 from twisted.internet import defer, error, task
 
+from ..language import LANGUAGE
+
 PyClass = Type[BaseException]
 
 #: the class that each name of the table is in Python, parents first
@@ -32,6 +34,7 @@ BUILT_IN: Dict[str, PyClass] = {
     "TaskStopped": task.TaskStopped,
     "TaskFailed": task.TaskFailed,
     "TimeoutError": defer.TimeoutError,
+    "SchedulerStopped": task.SchedulerStopped,
 }
 
 _NAMES: Dict[PyClass, str] = {cls: name for name, cls in BUILT_IN.items()}
@@ -41,10 +44,16 @@ _LONGEST = 32
 _OTHERS = re.compile("[^A-Za-z0-9_]")
 
 
+def is_built_in(name: str, version: int) -> bool:
+    """Whether scripts of this version have a class of this name without declaring it."""
+    return name in BUILT_IN and LANGUAGE.classes_since.get(name, 1) <= version
+
+
 class Classes:
     """The classes that one run knows, by their names in a script and by their classes in Python."""
 
-    def __init__(self) -> None:
+    def __init__(self, version: int = LANGUAGE.versions[0]) -> None:
+        self._version = version
         #: those that aren't built in
         self._by_name: Dict[str, PyClass] = {}
         self._names: Dict[PyClass, str] = {}
@@ -67,11 +76,15 @@ class Classes:
 
     def name_of(self, cls: PyClass) -> str:
         """The name of a class, which is declared below its nearest parent where it has none yet."""
-        known = _NAMES.get(cls) or self._names.get(cls)
+        built_in = _NAMES.get(cls)
+        if built_in is not None and is_built_in(built_in, self._version):
+            return built_in
+        known = self._names.get(cls)
         if known is not None:
             return known
         parent = self._parent_of(cls)
-        name = self._free_name(cls.__name__)
+        is_free = built_in is not None and built_in not in self._by_name  # a later version has it
+        name = built_in if is_free and built_in is not None else self._free_name(cls.__name__)
         self._add(name, cls, parent)
         return name
 

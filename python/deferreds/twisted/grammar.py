@@ -14,6 +14,7 @@ WIDEST_BYTES = _LIMITS["bytes"]
 MOST_CLASSES = _LIMITS["classes"]
 MOST_POOLS = _LIMITS["pools"]
 MOST_BODIES = _LIMITS["bodies"]
+MOST_COOPERATORS = _LIMITS["cooperators"]
 MOST_CALLERS = _LIMITS["callers"]
 MOST_POSTS = _LIMITS["posts"]
 MOST_JOBS = _LIMITS["jobs"]
@@ -52,6 +53,8 @@ LIMITS: Dict[int, range] = {
 }
 ADVANCES = _numbers(_of_word("advance", 0))
 DRAINS = _numbers(_of_word("drain", 0))
+#: how often a repeat has its events happen
+REPEATS = _numbers(_of_word("repeat", 0))
 DELAYS = _numbers(_of_word("later", 1))
 INTERVALS = _numbers(_of_word("loop", 2))
 #: the latest time that a call is due at
@@ -90,6 +93,7 @@ class Kind(enum.Enum):
     NEW_TASK = "a name for a task that is made"
     TASK = "a task"
     POOL = "a pool of threads, which the key `pools` declares"
+    COOPERATOR = "a Cooperator that the key `cooperators` declares"
     NAMED_BODY = "a body that the key `bodies` declares"
     VALUE = "a value"
     BODY = "a body"
@@ -134,7 +138,17 @@ FLAGS: Dict[Kind, FrozenSet[str]] = {
 #: the kinds that name an object of a kind, or make one
 MADE: FrozenSet[Kind] = frozenset(kind for kind in Kind if kind.name.startswith("NEW_"))
 FOUND: FrozenSet[Kind] = frozenset(
-    {Kind.DEFERRED, Kind.LOCK, Kind.QUEUE, Kind.CALL, Kind.LOOP, Kind.TASK, Kind.POOL, Kind.NAMED_BODY}
+    {
+        Kind.DEFERRED,
+        Kind.LOCK,
+        Kind.QUEUE,
+        Kind.CALL,
+        Kind.LOOP,
+        Kind.TASK,
+        Kind.POOL,
+        Kind.COOPERATOR,
+        Kind.NAMED_BODY,
+    }
 )
 
 Arguments = Tuple[Kind, ...]
@@ -220,9 +234,10 @@ STATEMENTS = _table("statement")
 #: the first version that has a statement
 STATEMENTS_SINCE = _since("statement")
 WORKS = _table("work")
-#: the event by which a script expects something, the first version that has it, and what may be expected
+#: the first version that has an event that is no action
+EVENTS_SINCE = _since("event")
+#: the event by which a script expects something, and what may be expected
 EXPECTING: Dict[str, List[Arguments]] = {"expect": [_kinds(row) for row in LANGUAGE.at("event") if row.word == "expect"]}
-EXPECTING_SINCE = _since("event")
 OUTCOMES = _table("outcome")
 #: the first version that has some form of an action, of an end or of this event
 SINCE: Dict[str, int] = {
@@ -263,6 +278,7 @@ _LEVEL_OF_KIND: Dict[Kind, str] = {
     Kind.STATEMENTS: "inline",
     Kind.WORK: "threads",
     Kind.POOL: "pools",
+    Kind.COOPERATOR: "version-3",
 }
 
 #: the level of an action whose arguments don't show it

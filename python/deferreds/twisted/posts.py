@@ -5,6 +5,7 @@ from __future__ import annotations
 import json
 from typing import Any, Iterator, List, Tuple
 
+from ..repeats import written_out
 from .running import run
 
 Batch = List[Tuple[int, int]]
@@ -23,7 +24,7 @@ def batches_of(script: str, output: str) -> List[List[Batch]]:
     comes nearest to the output.
     """
     root = json.loads(script)
-    drains: List[int] = [event[1] for event in root["events"] if event[0] == "drain"]
+    drains: List[int] = [event[1] for event in written_out(root["events"]) if event[0] == "drain"]
     taken, untold = _between_drains(output), _untold(root, output)
     choices = list(_choices(taken, untold, drains, _begins_with_post(output)))
     if len(choices) > 1:

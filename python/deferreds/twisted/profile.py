@@ -25,5 +25,6 @@ class Entry(enum.Enum):
     TICK_SCHEDULED_IN_A_TICK = "tick-scheduled-in-a-tick"
     REFUSED_WHEN_DONE = "refused-when-done"
     TASK_ENDED_TWICE = "task-ended-twice"
+    TASK_LEFT_BY_STOP = "task-left-by-stop"
     HOLD_ON_AN_ENDED_TASK = "hold-on-an-ended-task"
     PYTHON_STACK = "python-stack"

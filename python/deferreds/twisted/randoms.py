@@ -36,6 +36,9 @@ _WEIGHTS: Dict[str, int] = {
     "inline": 6,
     "thread": 3,
     "threadIn": 3,
+    "cooperateIn": 6,
+    "unitsIn": 1,
+    "stopCooperator": 4,
 }
 
 _NAMES: Dict[str, str] = {
@@ -48,6 +51,15 @@ _NAMES: Dict[str, str] = {
 }
 
 _POOLS = ("io", "net", "a")
+
+#: the Cooperators that a script may declare
+_COOPERATORS = ("w", "x", "t")
+
+#: the words that only a script with a declared Cooperator has
+_IN_COOPERATORS = ("cooperateIn", "unitsIn", "stopCooperator")
+
+#: what a script with declared Cooperators may begin with
+_BEGUN = ("cooperateIn", "cooperateIn", "cooperateIn")
 
 #: the bodies that a script may declare
 _BODIES = ("f", "g", "h")
@@ -70,6 +82,7 @@ class Scripts:
         self._known = grammar.actions_up_to(level)
         self._version_of = 1
         self._pools: List[str] = []
+        self._cooperators: List[str] = []
         self._named: List[str] = []
         self._paused: List[str] = []
         self._is_third = False
@@ -77,10 +90,11 @@ class Scripts:
         self._makers: Dict[Kind, Callable[[int], Any]] = self._kinds()
 
     def _take_words(self, version: int) -> None:
-        """Has actions be those of the level that a version has; only with a pool may one be submitted to."""
+        """Has actions be those of the level that a version has; only with a pool or a Cooperator is one used."""
         self._version_of = version
         known = [word for word in self._known if grammar.SINCE[word] <= version]
         words = [word for word in known if word != "threadIn" or self._pools]
+        words = [word for word in words if word not in _IN_COOPERATORS or self._cooperators]
         self._words = words
         self._weights = [_WEIGHTS.get(word, 1) for word in words]
         self._shallow = [word for word in words if not _holds_bodies(word)]
@@ -100,8 +114,9 @@ class Scripts:
         if self._one_in(5):
             root["limit"] = self._random.randint(0, 60)
         if "cooperate" in self._words:
-            units, delay = self._random.randint(1, 4), self._random.randint(1, 3)
-            root["cooperator"] = self._commented({"units": units, "delay": delay})
+            root["cooperator"] = self._cooperator()
+        if self._cooperators:
+            root["cooperators"] = [[name, self._cooperator()] for name in self._cooperators]
         if self._has("posts"):
             posts = [self._bodies(0) for _ in range(self._random.randint(1, 3))]
             root["callers"] = posts
@@ -109,7 +124,7 @@ class Scripts:
         events += [self._event() for _ in range(self._random.randint(3, 16))]
         if self._is_third and self._one_in(2):
             events += [self._expect() for _ in range(3)]
-        root["events"] = events
+        root["events"] = self._repeated(events) if self._is_third and self._one_in(3) else events
         return json.dumps(root, separators=(",", ":"))
 
     def _version(self, root: Dict[str, Any]) -> None:
@@ -124,11 +139,17 @@ class Scripts:
         """Has half of the scripts be of version 3, with marks in the names of some, comments, and failures in values."""
         self._is_third = self._one_in(2)
         self._marks = _MARKS if self._is_third and self._one_in(2) else ""
-        self._named = []
+        self._named, self._cooperators = [], []
         if self._is_third:
             root["version"] = 3
             self._named = self._random.sample(_BODIES, self._random.randint(0, 3))
+            self._cooperators = self._random.sample(_COOPERATORS, self._random.randint(0, 2))
             self._commented(root)
+
+    def _cooperator(self) -> Dict[str, Any]:
+        """How many steps a tick has, and how long it is to the next."""
+        units, delay = self._random.randint(1, 4), self._random.randint(1, 3)
+        return self._commented({"units": units, "delay": delay})
 
     def _commented(self, keyed: Dict[str, Any]) -> Dict[str, Any]:
         """An object, to which a comment is added in some scripts."""
@@ -142,7 +163,7 @@ class Scripts:
             ["deferred", name + self._marks]
             for name in self._random.sample("abcde", self._random.randint(2, 5))
         ]
-        for word in ("lock", "semaphore", "queue", "cooperate", "cooperate", "later", "loop"):
+        for word in ("lock", "semaphore", "queue", "cooperate", "cooperate", *_BEGUN, "later", "loop"):
             if word in self._words and self._one_in(3):
                 events.append([word, *self._arguments(grammar.ACTIONS[word], 0)])
         if self._is_third and self._one_in(2):
@@ -162,6 +183,15 @@ class Scripts:
         if self._has("posts") and self._one_in(5):
             return ["drain", self._random.randint(0, 4)]
         return self._action(0)
+
+    def _repeated(self, events: List[List[Any]]) -> List[List[Any]]:
+        """The events, of which some that follow one another repeat, and in half of the scripts some of these again."""
+        first = self._random.randrange(len(events))
+        last = first + self._random.randint(1, 4)
+        inside = events[first:last]
+        if self._one_in(2):
+            inside = self._repeated(inside)
+        return [*events[:first], ["repeat", self._random.randint(0, 3), inside], *events[last:]]
 
     def _expect(self) -> List[Any]:
         """An event that expects something: what a Deferred has in few runs, if it is a value."""
@@ -224,6 +254,7 @@ class Scripts:
         for kind in (*grammar.MADE, *grammar.FOUND):
             makers[kind] = self._naming(kind)
         makers[Kind.POOL] = lambda depth: self._random.choice(self._pools)
+        makers[Kind.COOPERATOR] = lambda depth: self._random.choice(self._cooperators)
         makers[Kind.NAMED_BODY] = lambda depth: self._random.choice(self._named)
         for kind, flags in grammar.FLAGS.items():
             makers[kind] = self._flagging(sorted(flags))

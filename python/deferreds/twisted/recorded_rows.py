@@ -26,14 +26,27 @@ def rules(path: Path = RULES) -> Iterator[Tuple[str, str]]:
     """Each rule's name, and its script."""
     for part in path.read_text(encoding="utf-8").removeprefix("== ").split("\n== "):
         name, *lines = part.strip().split("\n")
-        events = list(_events("\n".join(lines)))
+        parts = list(_parts("\n".join(lines)))
+        events = [part for part in parts if isinstance(part, list)]
         version = max(SINCE.get(word, 1) for word in words_in(events))
-        said = ",\n ".join(json.dumps(event, ensure_ascii=False, separators=(",", ":")) for event in events)
-        yield name, f'{{"version":{version},"events":[\n {said}]}}'
+        keys = "".join(f"{_said(key)}:{_said(value)}," for key, value in _keys(parts))
+        said = ",\n ".join(map(_said, events))
+        yield name, f'{{"version":{version},{keys}"events":[\n {said}]}}'
 
 
-def _events(text: str) -> Iterator[List[Any]]:
-    """The events of a script, which stand one after the other."""
+def _said(value: Any) -> str:
+    return json.dumps(value, ensure_ascii=False, separators=(",", ":"))
+
+
+def _keys(parts: List[Any]) -> Iterator[Tuple[str, Any]]:
+    """The keys of a script beside its version and its events, which objects before the events say."""
+    for part in parts:
+        if isinstance(part, dict):
+            yield from part.items()
+
+
+def _parts(text: str) -> Iterator[Any]:
+    """The events of a script, and the objects of its other keys, which stand one after the other."""
     decoder = json.JSONDecoder()
     place = 0
     while place < len(text):

@@ -15,10 +15,12 @@ from twisted.logger import globalLogBeginner
 from twisted.python.failure import Failure
 
 from ..ending import OutputFailed
+from ..language import LANGUAGE
 from . import grammar
-from .classes import BUILT_IN
+from .classes import BUILT_IN, Classes
 from .instruments import install, locks, queues
 from .instruments.clock import run_due
+from .instruments.tasks import Cooperating, know
 from .profile import Entry
 from .script import Script, read
 from .telling import Action, Line, Observer, Part, Record, Stopped, Thing, Time, lines_of, weight
@@ -65,8 +67,8 @@ class Run:
 class Teller(Observer):
     """Tells a run up to the limit of its journal."""
 
-    def __init__(self, limit: int) -> None:
-        super().__init__()
+    def __init__(self, limit: int, version: int = LANGUAGE.versions[0]) -> None:
+        super().__init__(classes=Classes(version))
         self.room = limit
         self.tell_line = self._tell_line
         self.goes_on_after_errors = True
@@ -103,7 +105,7 @@ class Teller(Observer):
         """Has the next lock, queue, delayed call, loop or task be known by this name."""
         self._names.append(name)
 
-    def thing(self, kind: str) -> Thing:
+    def thing(self, kind: str, made_at: Any = None) -> Thing:
         """The object that was named before it is made."""
         return Thing(self._names.pop())
 
@@ -223,15 +225,18 @@ class Player:
 
     def __init__(self, script: Script, batches: Optional[Batches] = None) -> None:
         self.script = script
-        self.teller = Teller(script.limit)
+        self.teller = Teller(script.limit, script.root["version"])
         for name, parent in script.classes:
             self.teller.classes.declare(name, parent)
         self.clock = task.Clock()
-        self.units = script.units
-        self.cooperator = task.Cooperator(
-            terminationPredicateFactory=self._terminator,
-            scheduler=lambda tick: self.clock.callLater(script.delay, tick),
-        )
+        #: how many steps a tick has of each Cooperator, by its name; None is that of the one that each script has
+        self.units: Dict[Optional[str], int] = {None: script.units}
+        self.cooperator = self._cooperator(None, script.delay)
+        know(self.teller, Cooperating(self.cooperator))
+        self.cooperators = {name: self._cooperator(name, delay) for name, (_, delay) in script.cooperators.items()}
+        self.units.update({name: units for name, (units, _) in script.cooperators.items()})
+        for name, made in self.cooperators.items():
+            know(self.teller, Cooperating(made, name))
         self.deferreds: Dict[str, Deferred[Any]] = {}
         self.things: Dict[Tuple[str, str], Any] = {}
         self.reactor = OwnThread()
@@ -261,8 +266,15 @@ class Player:
         run.quirks = [(bisect_left(places, place), entry) for place, entry in teller.quirks]
         return run
 
-    def _terminator(self) -> Callable[[], bool]:
-        left = [self.units]
+    def _cooperator(self, name: Optional[str], delay: int) -> task.Cooperator:
+        """A Cooperator whose ticks are so far from each other."""
+        return task.Cooperator(
+            terminationPredicateFactory=lambda: self._terminator(name),
+            scheduler=lambda tick: self.clock.callLater(delay, tick),
+        )
+
+    def _terminator(self, name: Optional[str]) -> Callable[[], bool]:
+        left = [self.units[name]]
 
         def is_over() -> bool:
             left[0] -= 1
@@ -615,7 +627,20 @@ class Player:
     def _set_units(self, action: List[Any], here: Optional[Deferred[Any]]) -> None:
         """Each tick has so many steps from the next one on."""
         self.teller.tell(f"units {action[1]}")
-        self.units = action[1]
+        self.units[None] = action[1]
+
+    def _set_units_in(self, action: List[Any], here: Optional[Deferred[Any]]) -> None:
+        """The same of a Cooperator that the script names."""
+        self.teller.tell(f"unitsin {action[1]} {action[2]}")
+        self.units[action[1]] = action[2]
+
+    def _cooperate_in(self, action: List[Any], here: Optional[Deferred[Any]]) -> None:
+        self.teller.name_next(action[1])
+        made = self.cooperators[action[2]].cooperate(Steps(action[3], self._body))
+        self._making("task", action[1], made)
+
+    def _stop_cooperator(self, action: List[Any], here: Optional[Deferred[Any]]) -> None:
+        self.cooperators[action[1]].stop()
 
     def _cooperate(self, action: List[Any], here: Optional[Deferred[Any]]) -> None:
         self.teller.name_next(action[1])
@@ -819,7 +844,10 @@ _OTHERS: Dict[str, Callable[[Player, List[Any], Optional[Deferred[Any]]], None]]
     "loop": Player._loop,
     "stopLoop": Player._stop_loop,
     "units": Player._set_units,
+    "unitsIn": Player._set_units_in,
     "cooperate": Player._cooperate,
+    "cooperateIn": Player._cooperate_in,
+    "stopCooperator": Player._stop_cooperator,
     "whenDone": Player._when_done,
     "pauseTask": Player._pause_task,
     "resumeTask": Player._resume_task,

@@ -9,6 +9,7 @@ from itertools import accumulate
 from typing import AbstractSet, Any, Dict, List, Mapping, NoReturn, Optional, Sequence, Tuple
 
 from ..language import LANGUAGE
+from ..repeats import written_out
 from . import grammar
 from .grammar import Kind
 
@@ -38,6 +39,7 @@ BAD_NAME = _reason("BadName")
 BAD_CLASS = _reason("BadClass")
 BAD_POOL = _reason("BadPool")
 BAD_BODY = _reason("BadBody")
+BAD_COOPERATOR = _reason("BadCooperator")
 
 
 class Refused(Exception):
@@ -56,11 +58,16 @@ class Script:
     def __init__(self, root: Mapping[str, Any]) -> None:
         cooperator = root.get("cooperator", LANGUAGE.usual)
         self.root = root
-        self.events: List[List[Any]] = root["events"]
+        #: its events, in which repeats are written out
+        self.events: List[List[Any]] = written_out(root["events"])
         self.limit: int = root.get("limit", grammar.DEFAULT_LIMIT)
         self.classes: List[List[str]] = root.get("classes", [])
         self.units: int = cooperator["units"]
         self.delay: int = cooperator["delay"]
+        #: the Cooperators by name, each with how many steps a tick has, and how long it is to the next
+        self.cooperators: Dict[str, Tuple[int, int]] = {
+            name: (settings["units"], settings["delay"]) for name, settings in root.get("cooperators", [])
+        }
         #: the names of the pools; no line shows how many workers one has
         self.pools: List[str] = [name for name, _ in root.get("pools", [])]
         self.bodies: Dict[str, grammar.Body] = dict(root.get("bodies", []))
@@ -78,6 +85,7 @@ def read(data: bytes, names_of_classes: Sequence[str]) -> Script:
     _refuse_classes(root, found, names_of_classes)
     _refuse_twice_or_unknown(root.get("pools", []), found.pools, BAD_POOL)
     _refuse_twice_or_unknown(root.get("bodies", []), found.bodies, BAD_BODY)
+    _refuse_twice_or_unknown(root.get("cooperators", []), found.cooperators, BAD_COOPERATOR)
     return Script(root)
 
 
@@ -184,6 +192,8 @@ class _Found:
         #: names of pools and of declared bodies that are used
         self.pools: List[str] = []
         self.bodies: List[str] = []
+        #: names of Cooperators that are used
+        self.cooperators: List[str] = []
         self.classes: List[str] = []
         self.advanced = 0
 
@@ -203,6 +213,8 @@ class _Shape:
             self._texts(pair, 2)
         if "cooperator" in root:
             self._cooperator(root["cooperator"])
+        for pair in self._array(root.get("cooperators", [])):
+            self._named_cooperator(pair)
         for pool in self._array(root.get("pools", [])):
             self._pool(pool)
         for pair in self._array(root.get("bodies", [])):
@@ -218,6 +230,12 @@ class _Shape:
         self._number(value["units"], grammar.UNITS)
         self._number(value["delay"], grammar.INTERVALS)
 
+    def _named_cooperator(self, value: Any) -> None:
+        if len(self._array(value)) != 2:
+            self._refuse(value)
+        self.found.names.append(self._text(value[0]))
+        self._cooperator(value[1])
+
     def _pool(self, value: Any) -> None:
         if len(self._array(value)) != 2:
             self._refuse(value)
@@ -230,17 +248,28 @@ class _Shape:
         self.found.names.append(self._text(value[0]))
         self._body(value[1])
 
-    def _event(self, event: Any) -> None:
+    def _event(self, event: Any, times: int = 1) -> None:
+        """An event, which happens so many times."""
         word = self._word(event)
         if word in ("advance", "drain"):
             if len(event) != 2:
                 self._refuse(event)
             self._number(event[1], grammar.ADVANCES if word == "advance" else grammar.DRAINS)
-            self.found.advanced += event[1] if word == "advance" else 0
+            self.found.advanced += event[1] * times if word == "advance" else 0
+        elif word == "repeat":
+            self._repeat(event, times)
         elif word == "expect":
-            self._said(event, grammar.EXPECTING, grammar.EXPECTING_SINCE)
+            self._said(event, grammar.EXPECTING, grammar.EVENTS_SINCE)
         else:
             self._said(event, grammar.ACTIONS, grammar.ACTIONS_SINCE)
+
+    def _repeat(self, repeat: Any, times: int) -> None:
+        """A repeat, which happens so many times."""
+        if grammar.EVENTS_SINCE["repeat", 2] > self._version or len(repeat) != 3:
+            self._refuse(repeat)
+        self._number(repeat[1], grammar.REPEATS)
+        for event in self._array(repeat[2]):
+            self._event(event, times * repeat[1])
 
     def _said(
         self, said: Any, table: Dict[str, List[grammar.Arguments]], since: Mapping[Tuple[str, int], int] = _ALWAYS
@@ -268,6 +297,8 @@ class _Shape:
                 self.found.pools.append(value)
             if kind is Kind.NAMED_BODY:
                 self.found.bodies.append(value)
+            if kind is Kind.COOPERATOR:
+                self.found.cooperators.append(value)
         else:
             self._other(kind, value)
 
@@ -407,10 +438,11 @@ class _Shape:
 def _refuse_counts(root: Mapping[str, Any], found: _Found) -> None:
     callers = root.get("callers", [])
     if (
-        nodes(root) > LANGUAGE.most("nodes", root["version"])
+        nodes(root) + added(root["events"]) > LANGUAGE.most("nodes", root["version"])
         or len(root.get("classes", [])) > grammar.MOST_CLASSES
         or len(root.get("pools", [])) > grammar.MOST_POOLS
         or len(root.get("bodies", [])) > grammar.MOST_BODIES
+        or len(root.get("cooperators", [])) > grammar.MOST_COOPERATORS
         or len(callers) > grammar.MOST_CALLERS
         or any(len(posts) > grammar.MOST_POSTS for posts in callers)
         or found.advanced > grammar.LONGEST_TIME
@@ -425,6 +457,25 @@ def nodes(value: Any) -> int:
     if isinstance(value, list):
         return 1 + sum(map(nodes, value))
     return 1
+
+
+def added(events: Sequence[Any]) -> int:
+    """How many nodes the repeats among these events add."""
+    total = 0
+    for event in events:
+        if event[0] == "repeat":
+            inside = added(event[2])
+            total += inside + max(0, event[1] - 1) * (_weight(event[2]) + inside)
+    return total
+
+
+def _weight(value: Any) -> int:
+    """How many nodes a value has where it is repeated: a text has one more for each 64 bytes."""
+    if isinstance(value, dict):
+        return 1 + sum(map(_weight, value.values()))
+    if isinstance(value, list):
+        return 1 + sum(map(_weight, value))
+    return 1 + len(value.encode()) // 64 if isinstance(value, str) else 1
 
 
 def is_name(text: str, version: int) -> bool:
@@ -442,7 +493,8 @@ def _refuse_names(root: Mapping[str, Any], found: _Found) -> None:
 
 
 def _refuse_classes(root: Mapping[str, Any], found: _Found, built_in: Sequence[str]) -> None:
-    known = set(built_in)
+    since = LANGUAGE.classes_since
+    known = {name for name in built_in if since.get(name, 1) <= root["version"]}
     for name, parent in root.get("classes", []):
         if name in known or parent not in known:
             raise Refused(BAD_CLASS, name)

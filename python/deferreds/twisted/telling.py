@@ -207,6 +207,8 @@ class Thing:
     """A lock, queue, delayed call, loop or task, by the name that its lines show."""
 
     alias: Optional["Thing"] = None
+    #: whether a script declares it, so that no action binds its name anew
+    declared = False
 
     def __init__(self, name: str, find_name: Optional[Callable[[], None]] = None) -> None:
         """`find_name` sets the name where that isn't known yet, and is called where it is asked for."""
@@ -747,9 +749,16 @@ class Observer:
     def end_inline(self, frame: Frame, result: object) -> None:
         """An inline body has ended with this result."""
 
-    def thing(self, kind: str) -> Thing:
-        """A name for a lock, queue, delayed call, loop or task that is made."""
+    def spot(self) -> Any:
+        """Where the program is, as what is made there is named."""
+        return None
+
+    def thing(self, kind: str, made_at: Any = None) -> Thing:
+        """A name for a lock, queue, delayed call, loop, task or Cooperator that is made here, or was made there."""
         return Thing(kind)
+
+    def locate_action(self, action: Action, inside: int) -> None:
+        """Notes where the program is, if that is where an action will have run. So many frames, from the caller's on, aren't its."""
 
     def value(self, outcome: Outcome) -> Any:
         """A value of the program's that is shown so, as an action of it has it."""

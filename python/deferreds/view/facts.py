@@ -137,6 +137,11 @@ def _of(told: Json, key: str) -> int:
     return _number(told[key]["number"])
 
 
+def _name_of(told: Json) -> str:
+    """The name of the object under the key `object`, or an empty one where there is none."""
+    return str(told["object"]["name"]) if "object" in told else ""
+
+
 def _due(told: Json) -> Optional[int]:
     return None if told["due"] is None else _number(told["due"])
 
@@ -192,7 +197,7 @@ _LEFT: Dict[str, Callable[[Json], Left]] = {
     "deferred": _deferred,
     "failure": lambda told: LeftFailure(_of(told, "deferred")),
     "call": lambda told: LeftCall(_of(told, "object"), _number(told["due"])),
-    "tick": lambda told: LeftTick(_number(told["due"])),
+    "tick": lambda told: LeftTick(_number(told["due"]), _name_of(told)),
     "delivery": lambda told: LeftDelivery(
         _of(told, "object"), _of(told, "deferred"), _number(told["due"])
     ),

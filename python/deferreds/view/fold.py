@@ -187,7 +187,9 @@ class Fold:
             "turn": self._turn,
             "stop": self._stop,
             "task": self._task,
+            "taskin": self._task,
             "tick": self._tick,
+            "tickin": self._tick,
             "hold": self._hold,
             "end": self._end,
             "pausetask": self._pause_task,
@@ -196,7 +198,7 @@ class Fold:
             "job": self._job,
             "deliver": self._deliver,
         }
-        for word in ("note", "step", "drain", "post", "body", "units", "expect", "unmet", "unbound"):
+        for word in ("note", "step", "drain", "post", "body", "units", "unitsin", "stopcooperator", "expect", "unmet", "unbound"):
             handlers[word] = _nothing
         return handlers
 
@@ -389,8 +391,8 @@ class Fold:
 
     def _later(self, row: Row, entry: Entry, before: Optional[Row]) -> None:
         world = self.world
-        if entry.what == "tick":
-            world.tick = Tick(row.place, entry.number)
+        if entry.what in ("tick", "tickin"):
+            world.due_ticks[entry.name] = Tick(entry.name, row.place, entry.number)
         elif entry.what == "job":
             job = world.jobs.get(int(entry.name))
             if job is not None:
@@ -477,12 +479,12 @@ class Fold:
         loop.phase = Phase.ENDED
 
     def _task(self, row: Row, entry: Entry, before: Optional[Row]) -> None:
-        self.world.add_task(Task(entry.name, row.place), entry)
+        self.world.add_task(Task(entry.name, row.place, entry.second), entry)
 
     def _tick(self, row: Row, entry: Entry, before: Optional[Row]) -> None:
-        if self.world.tick is not None:
-            self._link(self.world.tick.row, row, BracketKind.CAME)
-        self.world.tick = None
+        tick = self.world.due_ticks.pop(entry.name, None)
+        if tick is not None:
+            self._link(tick.row, row, BracketKind.CAME)
 
     def _hold(self, row: Row, entry: Entry, before: Optional[Row]) -> None:
         self._touch(row, entry.deferred)

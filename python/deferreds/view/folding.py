@@ -17,8 +17,8 @@ from .records import Row
 #: how often equal turns come at least that are one row, and of how many parts at most a turn has: an advance, a turn, a call
 _FEWEST_TURNS, _MOST_PARTS = 3, 4
 
-_STARTS = frozenset({"advance", "turn", "tick", "call"})
-_TURNS = frozenset({"turn", "tick"})
+_STARTS = frozenset({"advance", "turn", "tick", "tickin", "call"})
+_TURNS = frozenset({"turn", "tick", "tickin"})
 _NUMBERS = re.compile(r"#?\b\d+\b|(?:_\d+)+\b")
 
 

@@ -60,9 +60,10 @@ class LeftCall(NamedTuple):
 
 
 class LeftTick(NamedTuple):
-    """A tick that hasn't come."""
+    """A tick that hasn't come, of the Cooperator of this name; the script's own has none."""
 
     due: int
+    cooperator: str = ""
 
 
 class LeftDelivery(NamedTuple):
@@ -200,7 +201,7 @@ def _is_stuck(fold: Fold, number: int) -> bool:
 
 
 def _scheduled(fold: Fold) -> Iterator[Left]:
-    """Calls, timers, a tick and deliveries, in the order in which they were scheduled."""
+    """Calls, timers, ticks and deliveries, in the order in which they were scheduled."""
     world = fold.world
     found: List[Tuple[int, Left]] = [
         (call.row, LeftCall(call.number, call.due))
@@ -211,8 +212,8 @@ def _scheduled(fold: Fold) -> Iterator[Left]:
         record = fold.records[timer.deferred] if timer.deferred is not None else None
         if timer.state is Wait.WAITING and record is not None and record.fired is None:
             found.append((timer.row, LeftTimeout(record.number, timer.due)))
-    if world.tick is not None:
-        found.append((world.tick.row, LeftTick(world.tick.due)))
+    for tick in world.due_ticks.values():
+        found.append((tick.row, LeftTick(tick.due, tick.name)))
     for number, job in world.jobs.items():
         if job.due is not None and not job.is_delivered:
             found.append((job.later, LeftDelivery(number, job.deferred, job.due)))

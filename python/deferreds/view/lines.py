@@ -43,6 +43,8 @@ class Entry(NamedTuple):
     other: int = -1
     #: the name of an object, or of a Deferred that is made
     name: str = ""
+    #: the name of a second object that it names
+    second: str = ""
     #: a time, a number of tokens, of a job or of a caller
     number: int = -1
     outcome: Optional[Outcome] = None
@@ -86,8 +88,8 @@ def _pattern(form: Line) -> Pattern[str]:
         shape, group = _SHAPES[kind]
         if kind == "job" and "due" in types:
             group = "name"
-        if group == "deferred" and group in seen:
-            group = "other"
+        if group in seen:
+            group = {"deferred": "other", "name": "second"}.get(group, group)
         named = f"(?P<{group}>{shape})" if group not in seen else f"(?:{shape})"
         written.append(f"#{named}" if group in ("deferred", "other") else named)
         seen.add(group)
@@ -123,6 +125,7 @@ def read_line(row: int, line: str, thing: int = -1) -> Entry:
         first,
         second,
         part.get("name") or "",
+        part.get("second") or "",
         int(part.get("number") or -1),
         Outcome(tail) if tail is not None and words in _SHOW_OUTCOMES else None,
         len(line) if tail is None else len(line) - len(tail),

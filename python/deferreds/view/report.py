@@ -371,8 +371,10 @@ class Report:
                 Severity.LEFT, Kind.CALL, (f"delayed call {name} is due at {one.due}, {when}",), details, row
             )
         if isinstance(one, LeftTick):
-            row = world.tick.row if world.tick is not None else None
-            return Finding(Severity.LEFT, Kind.TICK, (f"a tick is due at {one.due}, {when}",), (), row)
+            tick = world.due_ticks.get(one.cooperator)
+            row = tick.row if tick is not None else None
+            whose = f" of {one.cooperator}" if one.cooperator else ""
+            return Finding(Severity.LEFT, Kind.TICK, (f"a tick{whose} is due at {one.due}, {when}",), (), row)
         if isinstance(one, LeftTimeout):
             row = self._timers.get((one.deferred, one.due))
             said: Phrase = ("the timer of ", OfDeferred(one.deferred), f" is due at {one.due}, {when}")

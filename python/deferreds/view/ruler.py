@@ -78,7 +78,8 @@ def _open(fold: Fold, left: List[Left]) -> Iterator[Bracket]:
         elif isinstance(one, LeftTimeout):
             row = timers.get((one.deferred, one.due))
         elif isinstance(one, LeftTick):
-            row = world.tick.row if world.tick is not None else None
+            tick = world.due_ticks.get(one.cooperator)
+            row = tick.row if tick is not None else None
         elif isinstance(one, LeftDelivery):
             row = world.jobs[one.job].later if one.job in world.jobs else None
         elif isinstance(one, LeftLoop) and one.due is not None:

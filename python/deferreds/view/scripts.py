@@ -6,6 +6,7 @@ import json
 from typing import Any, Dict, Iterator, List, Optional, Sequence, Tuple
 
 from ..language import LANGUAGE, Form, Word
+from ..repeats import written_out
 
 _NEW_DEFERRED: Form = {"type": "new", "of": "deferred"}
 
@@ -43,7 +44,7 @@ class Script:
     def __init__(self, document: object = None) -> None:
         self._document: Dict[str, Any] = document if isinstance(document, dict) else {}
         events = self._document.get("events")
-        self.events: Sequence[Any] = events if isinstance(events, list) else []
+        self.events: Sequence[Any] = written_out(events) if isinstance(events, list) else []
         self._places: Optional[Tuple[Places, Places]] = None
 
     def shown(self, event: int) -> str:

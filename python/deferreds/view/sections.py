@@ -55,7 +55,7 @@ class Sections:
 
     def _leave(self, entry: Entry) -> None:
         """What comes due ends what came due before it; a step, and the scheduling of the next tick, end only the step before."""
-        if entry.word == "step" or (entry.word == "later" and entry.what == "tick"):
+        if entry.word == "step" or (entry.word == "later" and entry.what in ("tick", "tickin")):
             if self._open and self._open[-1].word == "step":
                 self._open.pop()
         elif self._is_due(entry):

@@ -5,6 +5,8 @@ from __future__ import annotations
 import json
 from typing import NamedTuple, Optional, Sequence
 
+from ..repeats import written_out
+
 
 class Source(NamedTuple):
     """A text of a journal with its outcomes, or of what `./deferreds --json` has printed, and what is known beside it."""
@@ -30,4 +32,4 @@ class Source(NamedTuple):
         except (ValueError, RecursionError):
             return 0
         events = document.get("events") if isinstance(document, dict) else None
-        return len(events) if isinstance(events, list) else 0
+        return len(written_out(events)) if isinstance(events, list) else 0

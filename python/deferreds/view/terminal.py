@@ -26,7 +26,7 @@ _WORD_TONES: Dict[str, str] = {
     **dict.fromkeys(("wait", "await", "hold"), "wait"),
     "run": "run",
     **dict.fromkeys(
-        ("advance", "drain", "call", "tick", "post", "deliver", "turn", "step", "timeout"), "strong"
+        ("advance", "drain", "call", "tick", "tickin", "post", "deliver", "turn", "step", "timeout"), "strong"
     ),
 }
 

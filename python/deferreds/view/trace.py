@@ -123,7 +123,7 @@ class Trace:
             said = "the last posts" if event == LAST_POSTS else f"event {event} {self._run.script.shown(event)}".rstrip()
             yield self._slice(EVENTS, "event", said, place, self.clock.at(last[event]) + 1, event=visible(clipped(said, _MOST_TEXT)))
         for row in self._rows:
-            if row.entry.word in ("call", "turn", "tick", "step", "timeout", "deliver", "post"):
+            if row.entry.word in ("call", "turn", "tick", "tickin", "step", "timeout", "deliver", "post"):
                 # (a first turn lies where its loop does, also inside a side, and what follows isn't in it)
                 yield self._slice(EVENTS, "call", row.entry.line, row.place, self.clock.at(ends[row.place]) + 1)
 

@@ -164,10 +164,11 @@ class Loop(Thing):
 
 
 class Task(Thing):
-    """A task of the Cooperator."""
+    """A task of a Cooperator: the script's own has no name."""
 
-    def __init__(self, name: str, row: int) -> None:
+    def __init__(self, name: str, row: int, cooperator: str = "") -> None:
         super().__init__(name, row)
+        self.cooperator = cooperator
         self.pauses = 0
         #: the Deferred that holds it, and since which row
         self.held: Optional[Tuple[int, int]] = None
@@ -182,10 +183,10 @@ class Task(Thing):
 
 
 class Tick(Thing):
-    """A tick that is scheduled."""
+    """A tick of a Cooperator that is scheduled."""
 
-    def __init__(self, row: int, due: int) -> None:
-        super().__init__("", row)
+    def __init__(self, cooperator: str, row: int, due: int) -> None:
+        super().__init__(cooperator, row)
         self.due = due
 
 
@@ -238,9 +239,10 @@ class World:
         self.tasks: Shelf[Task] = Shelf()
         self.jobs: Dict[int, Job] = {}
         self.due = Due()
-        self.tick: Optional[Tick] = None
+        #: by the name of a Cooperator, its tick, and how many of its tasks take turns
+        self.due_ticks: Dict[str, Tick] = {}
         self.now = 0
-        self._active = 0
+        self._active: Dict[str, int] = {}
         #: where a Deferred waits in a line, that line
         self.lines: Dict[int, Line] = {}
 
@@ -281,14 +283,14 @@ class World:
 
     def change_task(self, task: Task, pauses: int, ends: bool = False) -> None:
         """Pauses a task more or less, or ends it; where none takes turns any more the tick that is scheduled is dropped."""
-        self._active -= task.takes_turns
+        took = task.takes_turns
         task.pauses += pauses
         task.has_ended = task.has_ended or ends
-        self._active += task.takes_turns
-        if not self._active:
-            self.tick = None
+        self._active[task.cooperator] = self._active.get(task.cooperator, 0) + task.takes_turns - took
+        if not self._active[task.cooperator]:
+            self.due_ticks.pop(task.cooperator, None)
 
     def add_task(self, task: Task, entry: Entry) -> None:
-        """A task joins the list."""
+        """A task joins the list of its Cooperator."""
         self.tasks.add(task, entry)
-        self._active += 1
+        self._active[task.cooperator] = self._active.get(task.cooperator, 0) + 1

@@ -18,7 +18,7 @@ use dv_forms::arguments::{
     named_value, one_small, one_text, two_texts,
 };
 use dv_forms::leaf::{
-    array, boolean, call, five, number, one_or_two, text, three, two, two_or_three,
+    array, boolean, call, five, number, one_or_two, small, text, three, two, two_or_three,
 };
 use dv_forms::shape_fault::ShapeFault;
 use dv_forms::words::ActionWord;
@@ -110,6 +110,9 @@ pub fn action(
         ActionWord::Thread => thread(alloc, classes, arguments),
         ActionWord::ThreadIn => thread_in(alloc, classes, arguments),
         ActionWord::Units => units(arguments),
+        ActionWord::CooperateIn => cooperate_in(alloc, classes, levels, arguments),
+        ActionWord::UnitsIn => units_in(alloc, arguments),
+        ActionWord::StopCooperator => stop_cooperator(alloc, arguments),
     }
 }
 
@@ -301,6 +304,25 @@ fn cooperate(
     let name = text(alloc, name)?;
     let bodies = bodies(alloc, classes, levels, array(json)?)?;
     Ok(Action::Cooperate(name, bodies))
+}
+
+#[cycle(shape)]
+#[inline(never)]
+#[tactic(auto, unfolding(dv_forms::specs::Parts::triple))]
+fn cooperate_in(
+    alloc: Global,
+    classes: &Classes,
+    levels: u32,
+    arguments: &[Json],
+) -> Result<Action, ShapeFault>
+    ensures { Reads result (three_of text_at text_at (list_at (body_at classes.now levels))
+        Action.CooperateIn (items_view arguments.now)) }
+{
+    let (name, cooperator, json) = three(arguments)?;
+    let name = text(alloc, name)?;
+    let cooperator = text(alloc, cooperator)?;
+    let bodies = bodies(alloc, classes, levels, array(json)?)?;
+    Ok(Action::CooperateIn(name, cooperator, bodies))
 }
 
 #[cycle(shape)]
@@ -517,4 +539,23 @@ fn units(arguments: &[Json]) -> Result<Action, ShapeFault>
         (one_of (number_at 1 MOST_UNITS) Action.Units (items_view arguments.now)) }
 {
     Ok(Action::Units(one_small(arguments, 1, MOST_UNITS)?))
+}
+
+#[inline(never)]
+#[tactic(auto, unfolding(dv_forms::specs::Parts::pair))]
+fn units_in(alloc: Global, arguments: &[Json]) -> Result<Action, ShapeFault>
+    ensures { Reads result
+        (two_of text_at (number_at 1 MOST_UNITS) Action.UnitsIn (items_view arguments.now)) }
+{
+    let (name, units) = two(arguments)?;
+    let name = text(alloc, name)?;
+    let units = small(units, 1, MOST_UNITS)?;
+    Ok(Action::UnitsIn(name, units))
+}
+
+#[inline(never)]
+fn stop_cooperator(alloc: Global, arguments: &[Json]) -> Result<Action, ShapeFault>
+    ensures { Reads result (one_of text_at Action.StopCooperator (items_view arguments.now)) }
+{
+    Ok(Action::StopCooperator(one_text(alloc, arguments)?))
 }

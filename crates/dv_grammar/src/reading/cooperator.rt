@@ -25,8 +25,9 @@ pub fn cooperator_or_plain(json: Option<&Json>) -> Result<Cooperator, ShapeFault
     }
 }
 
+/// A Cooperator.
 #[tactic(auto, unfolding(crate::specs::Shape::cooperator_at))]
-fn cooperator(json: &Json) -> Result<Cooperator, ShapeFault>
+pub fn cooperator(json: &Json) -> Result<Cooperator, ShapeFault>
     ensures { Reads result (cooperator_at (view json.now)) }
 {
     fields(json, &["units", "delay"])?;

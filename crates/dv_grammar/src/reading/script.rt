@@ -6,11 +6,12 @@ ghost use Rattle.dv_forms.specs.declared.versions.TheConstants.{LAST_VERSION};
 ghost use Rattle.dv_forms.specs.Limits.{most_limit};
 ghost use Rattle.dv_forms.specs.Parts.{each, field, fields_at, list_at, number_at};
 ghost use Rattle.dv_grammar.specs.Grammar.{keys_of};
-ghost use Rattle.dv_grammar.specs.Shape.{caller_at, event_at, named_body_at, pool_at, script_at};
+ghost use Rattle.dv_grammar.specs.Shape.{caller_at, events_in, named_body_at, named_cooperator_at};
+ghost use Rattle.dv_grammar.specs.Shape.{pool_at, script_by};
 
 use crate::draft::Draft;
 use crate::reading::body::{bodies, body};
-use crate::reading::cooperator::cooperator_or_plain;
+use crate::reading::cooperator::{cooperator, cooperator_or_plain};
 use crate::reading::event::events;
 use dv_forms::leaf::{array, fields, number, small, text, two};
 use dv_forms::limits::most_limit;
@@ -20,7 +21,7 @@ use dv_forms::versions::{BODIES_SINCE, LAST_VERSION};
 use dv_script::body::Body;
 use dv_script::event::Event;
 use dv_script::limits::{MOST_LEVELS, MOST_WORKERS, USUAL_LIMIT};
-use dv_script::script::{NamedBody, NamedPool, Script};
+use dv_script::script::{NamedBody, NamedCooperator, NamedPool, Script};
 use dv_value::classes::Classes;
 use dv_value::items::Items;
 use serde_json::Value as Json;
@@ -74,14 +75,15 @@ fn caller(alloc: Global, classes: &Classes, json: &Json) -> Result<Items<Body>, 
 fn all_events(
     alloc: Global,
     classes: &Classes,
+    expands: bool,
     json: Option<&Json>,
 ) -> Result<Items<Event>, ShapeFault>
-    ensures { Reads result (option_and_then (list_at (event_at classes.now))
+    ensures { Reads result (option_and_then (events_in expands classes.now)
         (option_map (λ d. view d.now) json.entry)) }
 {
     match json {
         None => Err(ShapeFault::BadShape),
-        Some(json) => events(alloc, classes, array(json)?),
+        Some(json) => events(alloc, classes, expands, MOST_LEVELS, array(json)?),
     }
 }
 
@@ -129,6 +131,7 @@ fn fields_of(version: u32, json: &Json) -> Result<(), ShapeFault>
         fields(
             json,
             &[
+                "cooperators",
                 "bodies",
                 "pools",
                 "version",
@@ -172,6 +175,43 @@ fn pool(alloc: Global, json: &Json) -> Result<NamedPool, ShapeFault>
     Ok(NamedPool { name, workers })
 }
 
+/// The Cooperators that a script names, which it may leave out.
+fn named_cooperators(
+    alloc: Global,
+    json: Option<&Json>,
+) -> Result<Items<NamedCooperator>, ShapeFault>
+    ensures { Reads result (field [] (list_at named_cooperator_at)
+        (option_map (λ d. view d.now) json.entry)) }
+{
+    match json {
+        None => Ok(Items::new(alloc)),
+        Some(json) => each_named_cooperator(alloc, array(json)?),
+    }
+}
+
+fn each_named_cooperator(
+    alloc: Global,
+    items: &[Json],
+) -> Result<Items<NamedCooperator>, ShapeFault>
+    ensures { Reads result (each named_cooperator_at (items_view items.now)) }
+{
+    let mut cooperators = Items::new(alloc);
+    for item in items {
+        cooperators.push(named_cooperator(alloc, item)?)?;
+    }
+    Ok(cooperators)
+}
+
+#[tactic(auto, unfolding(crate::specs::Shape::named_cooperator_at, dv_forms::specs::Parts::pair))]
+fn named_cooperator(alloc: Global, json: &Json) -> Result<NamedCooperator, ShapeFault>
+    ensures { Reads result (named_cooperator_at (view json.now)) }
+{
+    let (name, settings) = two(array(json)?)?;
+    let name = text(alloc, name)?;
+    let settings = cooperator(settings)?;
+    Ok(NamedCooperator { name, settings })
+}
+
 /// The bodies that a script names, which it may leave out.
 fn named_bodies(
     alloc: Global,
@@ -211,21 +251,23 @@ fn named_body(alloc: Global, classes: &Classes, json: &Json) -> Result<NamedBody
     Ok(NamedBody { name, body })
 }
 
-/// A script by its shape alone.
-#[tactic(auto, unfolding(crate::specs::Shape::script_at))]
-pub fn shape(alloc: Global, json: &Json) -> Result<Draft, ShapeFault>
-    ensures { Reads result (script_at (view json.now)) }
+/// A script by its shape alone, in which repeats are written out, or where `expands` is false left
+/// out.
+#[tactic(auto, unfolding(crate::specs::Shape::script_by))]
+pub fn shape(alloc: Global, expands: bool, json: &Json) -> Result<Draft, ShapeFault>
+    ensures { Reads result (script_by expands (view json.now)) }
 {
     let version = version(json.get("version"))?;
     fields_of(version, json)?;
     let limit = limit(version, json.get("limit"))?;
     let cooperator = cooperator_or_plain(json.get("cooperator"))?;
+    let cooperators = named_cooperators(alloc, json.get("cooperators"))?;
     let pools = pools(alloc, json.get("pools"))?;
     let declared = declarations(alloc, json.get("classes"))?;
-    let (classes, all_declared) = table(alloc, declared.as_slice())?;
+    let (classes, all_declared) = table(alloc, version, declared.as_slice())?;
     let bodies = named_bodies(alloc, &classes, json.get("bodies"))?;
     let callers = callers(alloc, &classes, json.get("callers"))?;
-    let events = all_events(alloc, &classes, json.get("events"))?;
+    let events = all_events(alloc, &classes, expands, json.get("events"))?;
     Ok(Draft {
         version,
         declared,
@@ -234,6 +276,7 @@ pub fn shape(alloc: Global, json: &Json) -> Result<Draft, ShapeFault>
             classes,
             limit,
             cooperator,
+            cooperators,
             pools,
             bodies,
             callers,

@@ -1,13 +1,16 @@
-ghost use Rattle.std.specs.Prelude.{◌≡◌, slice_get, IfOk, OnOk};
+ghost use Rattle.std.specs.Prelude.{◌≡◌, ◌+◌, length, slice_get, IfOk, OnOk};
 ghost use Rattle.dv_world.specs.World.{not_paused};
 ghost use Rattle.dv_objects.specs.declared.performed.Performed.TheVariants.{Raised};
 
 use super::World;
 use dv_clock::call_id::CallId;
+use dv_clock::cooperator_id::CooperatorId;
 use dv_clock::due::Due;
+use dv_clock::interval::Interval;
 use dv_clock::task_id::TaskId;
 use dv_journal::deferred_id::DeferredId;
 use dv_journal::entry::Entry;
+use dv_objects::cooperator::Cooperator;
 use dv_objects::performed::Performed;
 use dv_objects::task::{Task, TaskEnd};
 use dv_script::lent::{BodiesRef, BodyRef, TextRef};
@@ -20,64 +23,114 @@ use std::alloc::{AllocError, Global};
 
 impl<'s> World<'s> {
     ghost use Rattle.std.specs.Option.{option_copied};
-    ghost use Rattle.dv_journal.specs.declared.entry.Entry.TheVariants as entry;
-    ghost use Rattle.dv_objects.specs.Cooperator.{with_new_task};
+    ghost use Rattle.dv_clock.specs.Due.{scheduling};
     ghost use Rattle.dv_objects.specs.Names.{number_of};
-    ghost use Rattle.dv_objects.specs.Objects.{cooperating, without_tick};
-    ghost use Rattle.dv_world.specs.World.{aside, arrange, take_step, pause_task, resume_task};
-    ghost use Rattle.dv_world.specs.World.{hold_task, end_task, await_task, keep_tick};
-    ghost use Rattle.dv_world.specs.World.{schedule_tick, begin_tick, end_tick};
-    ghost use Rattle.dv_objects.specs.Cooperator.{with_units};
+    ghost use Rattle.dv_objects.specs.Objects.{with_tick, without_tick};
+    ghost use Rattle.dv_world.specs.World.{aside, arrange, cooperator_at, cooperator_of};
+    ghost use Rattle.dv_world.specs.World.{new_task, new_task_in, take_step, pause_task};
+    ghost use Rattle.dv_world.specs.World.{resume_task, hold_task, end_task, await_task};
+    ghost use Rattle.dv_world.specs.World.{keep_tick, begin_tick, end_tick, set_units};
+    ghost use Rattle.dv_world.specs.World.{set_units_in, halt};
 
-    /// Makes a task of bodies, and binds its name to it, also where that was bound to another; it
-    /// takes turns, last (Twisted: `Cooperator.cooperate`).
+    /// Makes a task of bodies in the Cooperator that each script has, and binds its name to it, also
+    /// where that was bound to another; it takes turns, last (Twisted: `Cooperator.cooperate`).
     #[tactic(auto, unfolding(crate::specs::World::aside))]
     pub fn make_task(&mut self, name: TextRef<'s>, bodies: BodiesRef<'s>) -> Result<(), AllocError>
-        ensures { OnOk result (self.new ≡ aside (entry.Task name.entry)
-            (cooperating (with_new_task name.entry bodies.entry)) self.old) }
+        ensures { OnOk result (self.new ≡ new_task name.entry bodies.entry self.old) }
     {
         if self.stopped {
             return Ok(());
         }
         let shown = Text::of(self.alloc, name.as_str())?;
         match self.journal.write(Entry::Task(shown)) {
-            Ok(()) => self.cooperator.make(name, bodies),
+            Ok(()) => self.cooperators.make(CooperatorId::new(0), name, bodies),
             Err(stop) => self.stopped_by(stop, ()),
         }
     }
 
+    /// The same in a Cooperator that the script names.
+    #[tactic(auto, unfolding(crate::specs::World::aside))]
+    pub fn make_task_in(
+        &mut self,
+        of: CooperatorId,
+        name: TextRef<'s>,
+        called: &str,
+        bodies: BodiesRef<'s>,
+    ) -> Result<(), AllocError>
+        ensures { OnOk result
+            (self.new ≡ new_task_in of name.entry called.now bodies.entry self.old) }
+    {
+        if self.stopped {
+            return Ok(());
+        }
+        let shown = Text::of(self.alloc, name.as_str())?;
+        let called = Boxed::new(self.alloc, Text::of(self.alloc, called)?)?;
+        match self.journal.write(Entry::TaskIn(shown, called)) {
+            Ok(()) => self.cooperators.make(of, name, bodies),
+            Err(stop) => self.stopped_by(stop, ()),
+        }
+    }
+
+    /// The id of the task that is made next, or AllocError where there are more than numbers of 32
+    /// bits.
+    pub fn next_task(&self) -> Result<TaskId, AllocError>
+        ensures { IfOk result (λ id. id ≡ length self.now.objects.cooperators.tasks) }
+    {
+        let Ok(number) = u32::try_from(self.cooperators.count()) else {
+            return Err(AllocError);
+        };
+        Ok(TaskId::new(number))
+    }
+
+    /// The Cooperator that the script names so.
+    pub fn find_cooperator(&self, name: &str) -> Option<CooperatorId>
+        ensures { result ≡ cooperator_at name.now self.now }
+    {
+        self.cooperators.find_cooperator(name)
+    }
+
+    /// A Cooperator by its number.
+    pub fn cooperator(&self, id: CooperatorId) -> Option<&Cooperator<'s>>
+        ensures { option_copied result ≡ cooperator_of id self.now }
+    {
+        self.cooperators.cooperator(id)
+    }
+
     /// The task that a name stands for.
     pub fn find_task(&self, name: &str) -> Option<TaskId>
-        ensures { result ≡ number_of name.now self.now.objects.cooperator.task_names }
+        ensures { result ≡ number_of name.now self.now.objects.cooperators.task_names }
     {
-        self.cooperator.find(name)
+        self.cooperators.find(name)
     }
 
     /// A task by its id.
     pub fn task(&self, id: TaskId) -> Option<&Task<'s>>
-        ensures { option_copied result ≡ slice_get self.now.objects.cooperator.tasks id }
+        ensures { option_copied result ≡ slice_get self.now.objects.cooperators.tasks id }
     {
-        self.cooperator.task(id)
+        self.cooperators.task(id)
     }
 
-    /// Logs the next step, and returns the task that takes it with its next body, where one is
-    /// left; None where nobody takes turns.
+    /// Logs the next step of a Cooperator, and returns the task that takes it with its next body,
+    /// where one is left; None where nobody takes turns.
     #[tactic(auto, unfolding(crate::specs::World::aside))]
-    pub fn take_step(&mut self) -> Result<Option<(TaskId, Option<BodyRef<'s>>)>, AllocError>
-        ensures { IfOk result (λ step. (step, self.new) ≡ take_step self.old) }
+    pub fn take_step(
+        &mut self,
+        of: CooperatorId,
+    ) -> Result<Option<(TaskId, Option<BodyRef<'s>>)>, AllocError>
+        ensures { IfOk result (λ step. (step, self.new) ≡ take_step of self.old) }
     {
         if self.stopped {
             return Ok(None);
         }
-        let Some(id) = self.cooperator.turn() else {
+        let Some(id) = self.cooperators.turn(of) else {
             return Ok(None);
         };
-        let Some(task) = self.cooperator.task(id) else {
+        let Some(task) = self.cooperators.task(id) else {
             return Ok(None);
         };
         let shown = Text::of(self.alloc, task.name.as_str())?;
         match self.journal.write(Entry::Step(shown)) {
-            Ok(()) => Ok(Some((id, self.cooperator.step(id)))),
+            Ok(()) => Ok(Some((id, self.cooperators.step(id)))),
             Err(stop) => self.stopped_by(stop, None),
         }
     }
@@ -90,12 +143,12 @@ impl<'s> World<'s> {
         if self.stopped {
             return Ok(());
         }
-        let Some(task) = self.cooperator.task(id) else {
+        let Some(task) = self.cooperators.task(id) else {
             return Ok(());
         };
         let shown = Text::of(self.alloc, task.name.as_str())?;
         match self.journal.write(Entry::PauseTask(shown)) {
-            Ok(()) => self.cooperator.pause(id),
+            Ok(()) => self.cooperators.pause(id),
             Err(stop) => self.stopped_by(stop, ()),
         }
     }
@@ -108,12 +161,12 @@ impl<'s> World<'s> {
         if self.stopped {
             return Ok(());
         }
-        let Some(task) = self.cooperator.task(id) else {
+        let Some(task) = self.cooperators.task(id) else {
             return Ok(());
         };
         let shown = Text::of(self.alloc, task.name.as_str())?;
         match self.journal.write(Entry::ResumeTask(shown)) {
-            Ok(()) => self.cooperator.resume(id),
+            Ok(()) => self.cooperators.resume(id),
             Err(stop) => self.stopped_by(stop, ()),
         }
     }
@@ -126,12 +179,12 @@ impl<'s> World<'s> {
         if self.stopped {
             return Ok(());
         }
-        let Some(task) = self.cooperator.task(id) else {
+        let Some(task) = self.cooperators.task(id) else {
             return Ok(());
         };
         let shown = Text::of(self.alloc, task.name.as_str())?;
         match self.journal.write(Entry::Hold(shown, given)) {
-            Ok(()) => self.cooperator.pause(id),
+            Ok(()) => self.cooperators.pause(id),
             Err(stop) => self.stopped_by(stop, ()),
         }
     }
@@ -145,7 +198,7 @@ impl<'s> World<'s> {
             drop(end);
             return Ok(Items::new(self.alloc));
         }
-        let Some(task) = self.cooperator.unended(id) else {
+        let Some(task) = self.cooperators.unended(id) else {
             drop(end);
             return Ok(Items::new(self.alloc));
         };
@@ -154,7 +207,7 @@ impl<'s> World<'s> {
             return Err(AllocError);
         };
         match self.journal.write(entry) {
-            Ok(()) => Ok(self.cooperator.end(id, end)),
+            Ok(()) => Ok(self.cooperators.end(id, end)),
             Err(stop) => {
                 drop(end);
                 self.stopped_by(stop, Items::new(self.alloc))
@@ -171,101 +224,146 @@ impl<'s> World<'s> {
         if self.stopped {
             return Ok(());
         }
-        let Some(task) = self.cooperator.task(id) else {
+        let Some(task) = self.cooperators.task(id) else {
             return Ok(());
         };
         let shown = Text::of(self.alloc, task.name.as_str())?;
         match self.journal.write(Entry::WhenDone(shown, waiting)) {
-            Ok(()) => self.cooperator.wait(id, waiting),
+            Ok(()) => self.cooperators.wait(id, waiting),
             Err(stop) => self.stopped_by(stop, ()),
         }
     }
 
-    /// Outside of ticks, a tick is scheduled while somebody takes turns, and none while nobody does
-    /// (Twisted: `Cooperator._reschedule`).
-    pub fn keep_tick(&mut self) -> Result<(), AllocError>
-        ensures { OnOk result (self.new ≡ keep_tick self.old) }
+    /// Outside of ticks of a Cooperator, one is scheduled while somebody takes turns in it, and none
+    /// while nobody does (Twisted: `Cooperator._reschedule`).
+    pub fn keep_tick(&mut self, of: CooperatorId) -> Result<(), AllocError>
+        ensures { OnOk result (self.new ≡ keep_tick of self.old) }
     {
-        if self.cooperator.wants_tick() {
-            return self.schedule_tick();
+        let Some(one) = self.cooperators.cooperator(of) else {
+            return Ok(());
+        };
+        if one.wants_tick() {
+            let what = one.next_tick(self.alloc, of)?;
+            let delay = one.delay;
+            return self.schedule_tick(of, what, delay);
         }
-        if let Some(tick) = self.cooperator.idle_tick() {
-            self.drop_tick(tick);
+        if let Some(tick) = one.idle_tick() {
+            self.drop_tick(of, tick);
         }
         Ok(())
     }
 
-    /// Schedules the next tick.
+    /// Schedules the next tick of a Cooperator.
     #[tactic(auto, unfolding(crate::specs::World::aside))]
-    fn schedule_tick(&mut self) -> Result<(), AllocError>
-        ensures { OnOk result (self.new ≡ schedule_tick self.old) }
+    fn schedule_tick(
+        &mut self,
+        of: CooperatorId,
+        what: Due,
+        delay: Interval,
+    ) -> Result<(), AllocError>
+        ensures { OnOk result (self.new
+            ≡ aside (scheduling what (self.old.objects.clock.time + delay))
+            (with_tick of what (self.old.objects.clock.time + delay)) self.old) }
     {
         if self.stopped {
+            drop(what);
             return Ok(());
         }
-        let delay = self.cooperator.delay();
-        match self
-            .clock
-            .later(&mut self.journal, Due::Tick, delay.ticks())
-        {
+        match self.clock.later(&mut self.journal, what, delay.ticks()) {
             Ok(tick) => {
-                self.cooperator.set_tick(Some(tick));
+                self.cooperators.set_tick(of, Some(tick));
                 Ok(())
             }
             Err(stop) => self.stopped_by(stop, ()),
         }
     }
 
-    /// Drops the tick that is scheduled.
+    /// Drops the tick of a Cooperator that is scheduled.
     #[tactic(auto, unfolding(crate::specs::World::arrange))]
-    fn drop_tick(&mut self, tick: CallId)
-        ensures { self.new ≡ arrange (without_tick tick) self.old }
+    fn drop_tick(&mut self, of: CooperatorId, tick: CallId)
+        ensures { self.new ≡ arrange (without_tick of tick) self.old }
     {
         if !self.stopped {
             let _ = self.clock.drop_call(tick);
-            self.cooperator.set_tick(None);
+            self.cooperators.set_tick(of, None);
         }
     }
 
-    /// A tick is under way from now on, and how many steps it has is answered.
+    /// A tick of a Cooperator is under way from now on.
     #[tactic(auto, unfolding(crate::specs::World::arrange))]
-    pub fn begin_tick(&mut self) -> u32
-        ensures units { result ≡ self.old.objects.cooperator.units }
-        ensures rest { self.new ≡ begin_tick self.old }
+    pub fn begin_tick(&mut self, of: CooperatorId)
+        ensures { self.new ≡ begin_tick of self.old }
     {
-        let units = self.cooperator.units();
         if !self.stopped {
-            self.cooperator.set_tick(None);
-            self.cooperator.set_ticking(true);
+            self.cooperators.begin_tick(of);
         }
-        units
     }
 
-    /// Each tick has so many steps from the next one on.
+    /// No tick of a Cooperator is under way any more.
+    #[tactic(auto, unfolding(crate::specs::World::arrange))]
+    pub fn end_tick(&mut self, of: CooperatorId)
+        ensures { self.new ≡ end_tick of self.old }
+    {
+        if !self.stopped {
+            self.cooperators.end_tick(of);
+        }
+    }
+
+    /// Each tick of the Cooperator that each script has takes so many steps from the next one on.
     #[tactic(auto, unfolding(crate::specs::World::aside))]
     pub fn set_units(&mut self, units: u32) -> Result<(), AllocError>
-        ensures { OnOk result
-            (self.new ≡ aside (entry.Units units) (cooperating (with_units units)) self.old) }
+        ensures { OnOk result (self.new ≡ set_units units self.old) }
     {
         if self.stopped {
             return Ok(());
         }
         match self.journal.write(Entry::Units(units)) {
             Ok(()) => {
-                self.cooperator.set_units(units);
+                self.cooperators.set_units(CooperatorId::new(0), units);
                 Ok(())
             }
             Err(stop) => self.stopped_by(stop, ()),
         }
     }
 
-    /// No tick is under way any more.
-    #[tactic(auto, unfolding(crate::specs::World::arrange))]
-    pub fn end_tick(&mut self)
-        ensures { self.new ≡ end_tick self.old }
+    /// Each tick of a Cooperator that the script names takes so many steps from the next one on.
+    #[tactic(auto, unfolding(crate::specs::World::aside))]
+    pub fn set_units_in(
+        &mut self,
+        of: CooperatorId,
+        name: &str,
+        units: u32,
+    ) -> Result<(), AllocError>
+        ensures { OnOk result (self.new ≡ set_units_in of name.now units self.old) }
     {
-        if !self.stopped {
-            self.cooperator.set_ticking(false);
+        if self.stopped {
+            return Ok(());
+        }
+        let shown = Text::of(self.alloc, name)?;
+        match self.journal.write(Entry::UnitsIn(shown, units)) {
+            Ok(()) => {
+                self.cooperators.set_units(of, units);
+                Ok(())
+            }
+            Err(stop) => self.stopped_by(stop, ()),
+        }
+    }
+
+    /// A Cooperator that the script names is stopped (Twisted: `Cooperator.stop`).
+    #[tactic(auto, unfolding(crate::specs::World::aside))]
+    pub fn halt(&mut self, of: CooperatorId, name: &str) -> Result<(), AllocError>
+        ensures { OnOk result (self.new ≡ halt of name.now self.old) }
+    {
+        if self.stopped {
+            return Ok(());
+        }
+        let shown = Text::of(self.alloc, name)?;
+        match self.journal.write(Entry::StopCooperator(shown)) {
+            Ok(()) => {
+                self.cooperators.halt(of);
+                Ok(())
+            }
+            Err(stop) => self.stopped_by(stop, ()),
         }
     }
 }

@@ -41,6 +41,8 @@ class Own(NamedTuple):
 
 #: finds out what it is that Twisted schedules
 own_calls: List[Callable[[Observer, Callable[..., Any]], Optional[Own]]] = []
+#: what is being tried, the last last: whether this clock is asked for a call of Twisted's own that isn't known as such yet
+tried: List[Any] = []
 
 
 def own_call(watcher: Observer, f: Callable[..., Any]) -> Optional[Own]:
@@ -110,6 +112,8 @@ def _instrumented_later(
     if not is_delay(delay):
         watcher.problem("a delay that is no number from 0", "clock")
         return _later(self, delay, f, *args, **kwargs)
+    if tried and tried[-1].takes(watcher, self, delay, f):
+        return tried[-1].begin(delay, functools.partial(_instrumented_later, self, delay, f, *args, **kwargs))
     own = own_call(watcher, f) if watcher.acting else None
     if own is not None:
         own.note(Time(delay))

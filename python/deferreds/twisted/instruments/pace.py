@@ -11,7 +11,7 @@ from typing import Any, Callable, Dict, List, NamedTuple, Optional, Tuple
 from twisted.internet import base
 
 from ..telling import Action, Advance, Observer, Time
-from .settling import MILLISECOND, UNITS, Conflict, Entry, Loop, Step, settle
+from .settling import MILLISECOND, UNITS, Conflict, Entry, Loop, Step, Tick, settle
 
 #: how far apart loops may start in a body, and be told to start at one time
 _APART = 50 * MILLISECOND
@@ -109,9 +109,9 @@ class Pace:
         """A result will come, at a time that isn't known."""
         return self._make(Entry(len(self._waiting)))
 
-    def tick(self) -> Waiting:
-        """A tick is scheduled."""
-        return self._make(Entry(len(self._waiting), is_tick=True))
+    def tick(self, delay: float, further: bool) -> Waiting:
+        """A tick is scheduled, so many seconds from now: one of the first Cooperator, or of a further one."""
+        return self._make(Entry(len(self._waiting), tick=Tick(round(delay * UNITS), further)))
 
     def _make(self, entry: Entry) -> Waiting:
         waiting = Waiting(entry, Time(0), Time(0))

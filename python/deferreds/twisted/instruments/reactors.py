@@ -18,7 +18,7 @@ from twisted.logger import ILogObserver, globalLogPublisher
 from zope.interface import directlyProvides
 
 from ..telling import Action, Observer, Time, observer_of, observers_on, watched
-from .clock import Delayed, Own, is_delay, own_call, run_delayed
+from .clock import Delayed, Own, is_delay, own_call, run_delayed, tried
 from .pace import Pace, Waiting, has_clock, is_real
 from .scheduled import stand_for
 
@@ -70,6 +70,8 @@ def _instrumented_later(self: Any, delay: float, f: Callable[..., Any], *args: A
     if not is_delay(delay):
         watcher.problem("a delay that is no number from 0", "clock")
         return _later(self, delay, f, *args, **kwargs)
+    if tried and tried[-1].takes(watcher, self, delay, f):
+        return tried[-1].begin(delay, functools.partial(_instrumented_later, self, delay, f, *args, **kwargs))
     own = own_call(watcher, f) if watcher.acting else None
     if own is not None:
         return _schedule_own(watcher, self, delay, own, functools.partial(f, *args, **kwargs))

@@ -16,7 +16,7 @@ order no times give is refused.
 from __future__ import annotations
 
 from bisect import bisect_left, insort
-from typing import Dict, List, NamedTuple, Optional, Sequence, Tuple
+from typing import Dict, Iterator, List, NamedTuple, Optional, Sequence, Set, Tuple
 
 UNITS = 1_000_000
 MILLISECOND = UNITS // 1000
@@ -50,6 +50,14 @@ class Manner(NamedTuple):
     exact: bool
     #: after what time a tick is due
     tick: int
+    #: whether one of the first Cooperator is due when that was asked for, if that isn't sooner than in a millisecond
+    asked: bool = False
+    #: whether calls that schedule ticks run in advances of their own, so that these ticks are due at different times
+    apart: bool = False
+
+    def due_in(self, tick: "Tick") -> int:
+        """After what time this tick is due."""
+        return tick.delay if tick.delay >= MILLISECOND and (tick.further or self.asked) else self.tick
 
 
 #: in the order in which they are tried
@@ -58,6 +66,22 @@ MANNERS = (
     Manner(MILLISECOND, False, 1),
     Manner(1, True, 1),
 )
+#: how many of them come before those that have the reactor's times
+_ROUND = 2
+#: those that are tried after them, where ticks of the first Cooperator are far from each other
+FAR_MANNERS = tuple(manner._replace(asked=True) for manner in MANNERS)
+#: those that are tried where there are ticks of several Cooperators
+OF_SEVERAL = (
+    *FAR_MANNERS[:_ROUND],
+    *(Manner(1, True, tick, True, apart) for apart in (False, True) for tick in (200, 10, 1)),
+)
+
+
+class Tick(NamedTuple):
+    """A tick: the delay that was asked for, and whether it is of another Cooperator than the first."""
+
+    delay: int
+    further: bool
 
 
 class Loop:
@@ -89,7 +113,7 @@ class Entry:
         delay: Optional[int] = None,
         loop: Optional[Loop] = None,
         turn: int = 0,
-        is_tick: bool = False,
+        tick: Optional[Tick] = None,
         moved: int = 0,
         before: Optional["Entry"] = None,
     ) -> None:
@@ -103,7 +127,7 @@ class Entry:
         #: the loop whose turn it is, and which turn
         self.loop = loop
         self.turn = turn
-        self.is_tick = is_tick
+        self.tick = tick
         #: whether an advance goes on that may run it still
         self.inside = False
         #: when it is recorded to be scheduled, and to be due
@@ -116,7 +140,7 @@ class Entry:
     @property
     def is_fixed(self) -> bool:
         """Whether the language works out when it is due."""
-        return self.loop is not None or self.is_tick
+        return self.loop is not None or self.tick is not None
 
     @property
     def key(self) -> Key:
@@ -153,25 +177,35 @@ class Step:
 
 def settle(steps: Sequence[Step]) -> None:
     """Chooses all times. Raises Conflict, where there are none."""
-    has_ticks = any(entry.is_tick for step in steps for entry in step.made)
-    manners = [manner for manner in MANNERS if has_ticks or manner.exact or manner.tick != 1]
+    ticks = {entry.tick for step in steps for entry in step.made if entry.tick is not None}
+    manners = _manners_for(ticks)
     tried: List[Tuple[int, int]] = []
     conflict: Optional[Conflict] = None
     for place, manner in enumerate(manners):
-        if manner.exact and tried:
+        if tried and place >= _ROUND:
             break
         try:
             moved = _settled(steps, manner)
         except Conflict as why:
             conflict = conflict or why
             continue
-        if not moved or not has_ticks:
+        if not moved or not ticks:
             return
         tried.append((moved, place))
     if not tried:
         assert conflict is not None
         raise conflict
     _settled(steps, manners[min(tried)[1]])
+
+
+def _manners_for(ticks: Set[Tick]) -> Sequence[Manner]:
+    """The manners that are tried where there are these ticks."""
+    if not ticks:
+        return [manner for manner in MANNERS if manner.exact or manner.tick != 1]
+    if any(tick.further for tick in ticks):
+        return OF_SEVERAL
+    is_far = any(tick.delay >= MILLISECOND for tick in ticks)
+    return (*MANNERS, *FAR_MANNERS) if is_far else MANNERS
 
 
 def _settled(steps: Sequence[Step], manner: Manner) -> int:
@@ -242,6 +276,13 @@ class _Settling:
         self._asked = _Waiting()
         self._jobs: Dict[Entry, None] = {}
         self.moved = 0
+        #: where ticks of several Cooperators wait: by which step each entry has run, or has ended
+        self._over: Dict[Entry, int] = {}
+        if any(entry.tick is not None and entry.tick.further for step in steps for entry in step.made):
+            for place, step in enumerate(steps):
+                self._over.update((entry, place) for entry, _ in step.ended)
+                if step.entry is not None:
+                    self._over[step.entry] = place
 
     def take(self, step: Step) -> None:
         """Chooses the times of a step."""
@@ -282,8 +323,8 @@ class _Settling:
         if loop is not None:
             entry.due = _next_turn(loop, self._now)
             self._fixed.add(entry)
-        elif entry.is_tick:
-            entry.due = self._now + self._manner.tick
+        elif entry.tick is not None:
+            entry.due = self._now + self._manner.due_in(entry.tick)
             self._fixed.add(entry)
         elif entry.delay is not None:
             since = self._now if entry.before is None else entry.before.due
@@ -317,7 +358,7 @@ class _Settling:
         asked = None if self._manner.exact else self._asked.first_after(self._now)
         if asked is not None and to >= asked.due:
             to = (asked.due - 1) // grain * grain
-        to = max(to, self._least(step))
+        to = max(min(to, self._most(step, to)), self._least(step))
         if first is not None and to >= first.due:
             to = self._now + (first.due - self._now) // 2
         if to > self._now and step is not self._steps[0]:
@@ -343,10 +384,12 @@ class _Settling:
             return
         least = self._least(step)
         if entry.delay is not None:
-            if self._joins(entry) and least <= self._now:
+            is_apart = self._manner.apart and any(made.tick is not None for made in step.made)
+            if self._joins(entry) and least <= self._now and not is_apart:
                 self._last = entry.key
                 return
             is_next = entry.due > self._now or (entry.due == self._now and not self._waited(entry, self._count))
+            is_next = is_next and entry.due <= self._most(step, entry.due)
             to = self._late(step, entry.due)
             if is_next and (first is None or to < first.due or (entry.key < first.key and self._is_right(step, to))):
                 self._advance(step, to)
@@ -375,7 +418,9 @@ class _Settling:
         soft = None if asked is None else asked.due
         least = self._least(step)
         choices = [step.real // grain * grain, (now // grain + 1) * grain, now + 1]
-        if top is not None:
+        if self._over:
+            choices.insert(0, self._most(step, choices[0]))
+        if top is not None and not (self._over and self._manner.exact):  # (there, others may need the room)
             choices.insert(2, now + (top - now) // 2)
         if least > now:
             choices = [*(choice for choice in choices if choice >= least), least, *choices]
@@ -410,6 +455,8 @@ class _Settling:
         grain = self._manner.grain
         is_late = self._manner.exact or step.real - due > _LATE
         to = max(due, step.real // grain * grain if is_late else due)
+        if self._over:
+            to = max(due, self._least(step), self._most(step, to))
         if not self._turning:
             return to
         least = max(due, self._least(step))
@@ -455,7 +502,44 @@ class _Settling:
     def _least(self, step: Step) -> int:
         """The time that is needed for what a step schedules: loops start then, and their next turns are as the reactor has them."""
         starts = (loop.at for loop in step.starts)
-        return max([0, *starts, *(_reached(entry) for entry in step.made if entry.loop is not None)])
+        return max([0, *starts, *(_reached(entry) for entry in step.made if entry.loop is not None), *self._after(step)])
+
+    def _in_turn(self, step: Step) -> List[Step]:
+        """The step, and those after it that the reactor has run in the same turn, with nothing from elsewhere among them."""
+        found = [step]
+        for other in self._steps[self._places[step] + 1 :]:
+            if found[-1].closed or other.entry is None or other.real != step.real:
+                break
+            found.append(other)
+        return found
+
+    def _after(self, step: Step) -> Iterator[int]:
+        """The times that are needed so that each tick which is scheduled in the turn is due after what runs before it."""
+        if not self._over:
+            return
+        end = len(self._steps)
+        for tick in (entry for one in self._in_turn(step) for entry in one.made):
+            if tick.tick is not None:
+                over = self._over.get(tick, end)
+                for other in self._fixed.all():
+                    place = self._over.get(other, end)
+                    if place < over and self._steps[place].entry is other:
+                        yield other.due - self._manner.due_in(tick.tick)
+
+    def _most(self, step: Step, to: int) -> int:
+        """The last time until this one at which what can't be moved isn't due before all that runs before it in other turns."""
+        if not self._over:
+            return to
+        turn, end = self._in_turn(step), len(self._steps)
+        last = self._places[turn[-1]]
+        made = [entry for one in turn for entry in one.made]
+        ticks = [(self._over.get(entry, end), self._manner.due_in(entry.tick)) for entry in made if entry.tick is not None]
+        for other in self._fixed.all():
+            over = self._over.get(other, end)
+            if over > last:
+                far = max((delay for left, delay in ticks if left <= over), default=0)
+                to = min(to, other.due - (over - last) - far - 1)
+        return to
 
     def _waited(self, entry: Entry, advance: int) -> bool:
         """Whether it waited while the advance of this number went on."""
@@ -483,7 +567,7 @@ def _reached(entry: Entry, more: int = 0) -> int:
 
 def _conflict(entry: Entry, reason: str) -> Conflict:
     place = "" if entry.loop is None else entry.loop.place
-    return Conflict(reason, place, "cooperator" if entry.is_tick else "loop")
+    return Conflict(reason, place, "loop" if entry.tick is None else "cooperator")
 
 
 def _check(steps: Sequence[Step]) -> None:

@@ -1,16 +1,24 @@
-"""The instrument of Cooperator and CooperativeTask. One Cooperator of a run is recorded as such: the first."""
+"""The instrument of Cooperator and CooperativeTask.
+
+The first Cooperator of a run that gets a task has no name in its script, and each further one has, where the clock of the run schedules
+its ticks. What a scheduler does is known once it has scheduled the first. Until then the first task is tried: if no tick reaches the
+clock, the Cooperator is recorded as the Python that it is made of.
+"""
 
 from __future__ import annotations
 
+import functools
 import sys
 from typing import Any, Callable, Dict, Iterator, List, NamedTuple, Optional
 
 from twisted.internet import task
 from twisted.internet.defer import AlreadyCalledError, Deferred
 
+from .. import grammar
 from ..profile import Entry
-from ..telling import Action, Observer, Record, Thing, Time, observer_of
-from .clock import Own, own_calls
+from ..telling import Action, Line, Observer, Record, Thing, Time, observer_of
+from .clock import Own, own_calls, tried
+from .pace import is_real
 
 _Task = task.CooperativeTask
 _Cooperator = task.Cooperator
@@ -21,6 +29,7 @@ _stop = _Task.stop
 _when_done = _Task.whenDone
 _complete = _Task._completeWith
 _work = _Task._oneWorkUnit
+_make = _Cooperator.__init__
 _reschedule = _Cooperator._reschedule
 _tick = _Cooperator._tick
 _remove = _Cooperator._removeTask
@@ -37,10 +46,14 @@ class Tick(NamedTuple):
 
 
 class Cooperating:
-    """What is kept of the Cooperator of a run."""
+    """What is kept of a Cooperator of the run, or of several: one that has no tasks any more leaves its name to another of its kind."""
 
-    def __init__(self, cooperator: Any) -> None:
+    def __init__(self, cooperator: Any, name: Optional[str] = None) -> None:
         self.cooperator = cooperator
+        #: its name, where the script names it
+        self.thing = None if name is None else Thing(name)
+        #: the actions that make its tasks, while it has none
+        self.unnamed: List[Action] = []
         self.delays: List[Time] = []
         self.ticks: List[Tick] = []
         #: the steps of the tick that goes on
@@ -52,6 +65,11 @@ class Cooperating:
         self.time = 0
         #: whose turn is next, where nobody is skipped
         self.place = 0
+        #: how many of its tasks haven't ended
+        self.live = 0
+        #: where it was made, and after how many seconds its ticks are due
+        self.made_at: Any = None
+        self.delay = 0.0
 
     def next_is(self, stepped: Any) -> bool:
         """Whether it is the turn of the one that is stepped, where nobody is skipped."""
@@ -61,6 +79,64 @@ class Cooperating:
         expected = tasks[self.place] is stepped
         self.place = tasks.index(stepped) + 1
         return expected
+
+    def word(self, word: str, end: str = "") -> Thing:
+        """The first words of a line: those of a Cooperator with a name have another word, and the name."""
+        return _Word(self, word + end, f"{word}in {{}}{end}")
+
+    def task_line(self, made: Thing) -> Line:
+        """The line that a task is made."""
+        return _Word(self, "task ", "taskin "), made, _Word(self, "", " {}")
+
+    def takes(self, made_at: Any, delay: float) -> bool:
+        """Whether it can be another Cooperator, made there, whose ticks are due after so many seconds."""
+        is_idle = not (self.live or self.in_tick or self.cooperator._tasks or self.cooperator._stopped)
+        return is_idle and self.made_at == made_at and self.delay == delay
+
+    def become(self, cooperator: Any) -> None:
+        """Is another Cooperator from here on."""
+        self.cooperator._dv_cooperating = None
+        self.cooperator, self.place = cooperator, 0
+
+    def name_it(self, thing: Thing) -> None:
+        """Has a name from the beginning of the run on."""
+        self.thing = thing
+        thing.declared = True
+        for action in self.unnamed:
+            action[0] = "cooperateIn"
+            action.insert(2, thing)
+        self.unnamed.clear()
+
+
+class _Word(Thing):
+    """A part of a line, which is another one where the Cooperator has a name by the time that the line is said."""
+
+    def __init__(self, cooperating: Cooperating, unnamed: str, named: str) -> None:
+        super().__init__(unnamed)
+        self._cooperating = cooperating
+        self._named = named
+
+    @property
+    def name(self) -> str:
+        """The part."""
+        thing = self._cooperating.thing
+        return self.own_name if thing is None else self._named.format(thing.name)
+
+
+class Cooperators:
+    """The Cooperators of a run that are recorded as such: the one that has no name, and those that have."""
+
+    def __init__(self) -> None:
+        self.first: Optional[Cooperating] = None
+        self.further: List[Cooperating] = []
+
+    def all(self) -> List[Cooperating]:
+        """All of them."""
+        return [*filter(None, (self.first,)), *self.further]
+
+    def taking(self, made_at: Any, delay: float) -> Optional[Cooperating]:
+        """One whose name a Cooperator may have that was made there, and whose ticks are due after so many seconds."""
+        return next((one for one in self.further if one.takes(made_at, delay)), None)
 
 
 class Known:
@@ -78,52 +154,192 @@ def _known(watcher: Optional[Observer], cooperative: Any) -> Optional[Known]:
 
 
 def _cooperating(watcher: Optional[Observer], cooperator: Any) -> Optional[Cooperating]:
-    """What is kept of this Cooperator, if it is that of the run."""
-    found = None if watcher is None else watcher.cooperator
-    return found if isinstance(found, Cooperating) and found.cooperator is cooperator else None
+    """What is kept of this Cooperator, if it is recorded as such."""
+    found = cooperator._dv_cooperating
+    return found[1] if found is not None and found[0] is watcher else None
+
+
+def _cooperators(watcher: Observer) -> Cooperators:
+    """The Cooperators of the run."""
+    if watcher.cooperator is None:
+        watcher.cooperator = Cooperators()
+    found: Cooperators = watcher.cooperator
+    return found
+
+
+def know(watcher: Observer, cooperating: Cooperating) -> None:
+    """Has a Cooperator be recorded as such: one that has a name, or the first."""
+    known = _cooperators(watcher)
+    if cooperating.thing is None:
+        known.first = cooperating
+    else:
+        known.further.append(cooperating)
+    cooperating.cooperator._dv_cooperating = (watcher, cooperating)
 
 
 # making
 
 
+def _instrumented_making(self: Any, *args: Any, **kwargs: Any) -> None:
+    _make(self, *args, **kwargs)
+    watcher = observer_of("cooperator")
+    if watcher is not None:
+        self._dv_made_at = watcher.spot()
+
+
+def _made_at(watcher: Observer, cooperator: Any) -> Any:
+    """Where a Cooperator was made; one from before the recording, where it is met."""
+    return cooperator._dv_made_at or watcher.spot()
+
+
 def _instrumented_init(self: Any, iterator: Iterator[Any], cooperator: Any) -> None:
     watcher = observer_of("cooperator")
-    if watcher is None or watcher.quiet or not _is_told(watcher, cooperator):
+    if watcher is None or watcher.quiet:
         _init(self, iterator, cooperator)
         return
-    if not cooperator._started or cooperator._stopped:
-        watcher.problem("a Cooperator that isn't started", "cooperator")
+    cooperating = _cooperating(watcher, cooperator) or _begun(watcher, cooperator)
+    if cooperating is None:
+        _try(watcher, self, iterator, cooperator)
+        return
     known = Known(watcher.thing("task"), watcher.new_body("steps"))
-    self._dv_task = (watcher, known)
-    watcher.texts.bind(iterator, known.thing)
     action = Action(["cooperate", known.thing, known.steps])
-    watcher.act(action, _tell_made, watcher, known, self, iterator, cooperator)
+    _bind(watcher, cooperating, self, iterator, known, action)
+    watcher.act(action, _tell_made, watcher, cooperating, known, self, iterator)
+
+
+def _bind(
+    watcher: Observer, cooperating: Cooperating, cooperative: Any, iterator: Iterator[Any], known: Known, action: Action
+) -> None:
+    """A task is made in a Cooperator."""
+    cooperative._dv_task = (watcher, known)
+    watcher.texts.bind(iterator, known.thing)
+    cooperating.live += 1
+    cooperating.unnamed.append(action)
+    if cooperating.thing is not None:
+        cooperating.name_it(cooperating.thing)
 
 
 def _tell_made(
-    watcher: Observer, known: Known, cooperative: Any, iterator: Iterator[Any], cooperator: Any
+    watcher: Observer, cooperating: Cooperating, known: Known, cooperative: Any, iterator: Iterator[Any]
 ) -> None:
-    watcher.tell("task ", known.thing)
-    _init(cooperative, iterator, cooperator)
+    watcher.tell(*cooperating.task_line(known.thing))
+    _init(cooperative, iterator, cooperating.cooperator)
 
 
-def _is_told(watcher: Observer, cooperator: Any) -> bool:
-    """Whether it is the Cooperator of the run, which the first that gets a task is."""
-    if watcher.cooperator is None and not cooperator._tasks:
-        watcher.cooperator = Cooperating(cooperator)
-    return _cooperating(watcher, cooperator) is not None
+def _begun(watcher: Observer, cooperator: Any) -> Optional[Cooperating]:
+    """A Cooperator that is met, where what its scheduler does needn't be known: the first, and one that is stopped already."""
+    if cooperator._tasks or _is_plain(watcher, cooperator):
+        return None
+    if cooperator._stopped:
+        return _begun_stopped(watcher, cooperator)
+    if not cooperator._started or (watcher.cooperator is not None and watcher.cooperator.first is not None):
+        return None
+    first = Cooperating(cooperator)
+    know(watcher, first)
+    return first
+
+
+def _begun_stopped(watcher: Observer, cooperator: Any) -> Optional[Cooperating]:
+    """A Cooperator that was stopped before it had a task is stopped where it is met first."""
+    if not _has_room(watcher):
+        return None
+    cooperating = _named(watcher, cooperator, _made_at(watcher, cooperator))
+    watcher.act(Action(["stopCooperator", cooperating.thing]), watcher.tell, *_stop_line(cooperating))
+    return cooperating
+
+
+def _named(watcher: Observer, cooperator: Any, made_at: Any) -> Cooperating:
+    """A Cooperator gets a name."""
+    cooperating = Cooperating(cooperator)
+    cooperating.name_it(watcher.thing("cooperator", made_at))
+    cooperating.made_at = made_at
+    know(watcher, cooperating)
+    return cooperating
+
+
+def _has_room(watcher: Observer) -> bool:
+    """Whether a script may have one more Cooperator by name, and one beside that, which the first may be later."""
+    return watcher.cooperator is None or len(watcher.cooperator.further) < grammar.MOST_COOPERATORS - 1
+
+
+def _is_plain(watcher: Observer, cooperator: Any) -> bool:
+    """Whether it is recorded as the Python that it is made of."""
+    found = cooperator._dv_cooperating
+    return found is not None and found[0] is watcher and found[1] is None
+
+
+def _try(watcher: Observer, cooperative: Any, iterator: Iterator[Any], cooperator: Any) -> None:
+    """A task is made in a Cooperator that isn't known: it is, where the clock of the run schedules its tick after some time."""
+    is_fresh = cooperator._started and not cooperator._tasks and not _is_plain(watcher, cooperator)
+    if not is_fresh or not _has_room(watcher):
+        _init(cooperative, iterator, cooperator)
+        return
+    trying = _Trying(watcher, cooperative, iterator, cooperator)
+    watcher.locate_action(trying.action, 2)
+    tried.append(trying)
+    try:
+        _init(cooperative, iterator, cooperator)
+    finally:
+        tried.remove(trying)
+    if not trying.is_begun:
+        cooperator._dv_cooperating = (watcher, None)
+
+
+class _Trying:
+    """The first task of a Cooperator that may get a name."""
+
+    def __init__(self, watcher: Observer, cooperative: Any, iterator: Iterator[Any], cooperator: Any) -> None:
+        self._watcher = watcher
+        self._cooperative = cooperative
+        self._iterator = iterator
+        self._cooperator = cooperator
+        self._spot = watcher.spot()
+        self._steps = watcher.new_body("steps")
+        self.action = Action(["cooperate", None, self._steps])
+        self.is_begun = False
+
+    def takes(self, watcher: Observer, clock: Any, delay: float, call: Callable[..., Any]) -> bool:
+        """Whether this is the tick, which the clock of the run is asked for, and which a script may have."""
+        is_tick = getattr(call, "__func__", None) is _instrumented_tick and getattr(call, "__self__", None) is self._cooperator
+        return is_tick and watcher is self._watcher and not self.is_begun and not watcher.acting and (delay > 0 or is_real(clock))
+
+    def begin(self, delay: float, schedule: Callable[[], Any]) -> Any:
+        """The task is recorded, and then the tick is scheduled."""
+        self.is_begun = True
+        watcher = self._watcher
+        made_at = _made_at(watcher, self._cooperator)
+        cooperating = _cooperators(watcher).taking(made_at, delay)
+        if cooperating is None:
+            cooperating = _named(watcher, self._cooperator, made_at)
+            cooperating.delay = delay
+        else:
+            cooperating.become(self._cooperator)
+            self._cooperator._dv_cooperating = (watcher, cooperating)
+        known = Known(watcher.thing("task", self._spot), self._steps)
+        self.action[1] = known.thing
+        _bind(watcher, cooperating, self._cooperative, self._iterator, known, self.action)
+        return watcher.act(self.action, _tell_tried, watcher, cooperating.task_line(known.thing), schedule)
+
+
+def _tell_tried(watcher: Observer, line: Line, schedule: Callable[[], Any]) -> Any:
+    watcher.tell(*line)
+    return schedule()
 
 
 # ticks
 
 
 def _own_tick(watcher: Observer, call: Callable[..., Any]) -> Optional[Own]:
-    """Twisted schedules a tick of the Cooperator of the run."""
-    cooperating = _cooperating(watcher, getattr(call, "__self__", None))
-    if cooperating is None or getattr(call, "__func__", None) is not _instrumented_tick:
+    """Twisted schedules a tick of a Cooperator that is recorded as such."""
+    if getattr(call, "__func__", None) is not _instrumented_tick:
+        return None
+    cooperating = _cooperating(watcher, getattr(call, "__self__"))
+    if cooperating is None:
         return None
     cooperating.seen = True
-    return Own(("later tick ",), lambda pace, delay: pace.tick(), cooperating.delays.append)
+    further = cooperating.made_at is not None
+    line = (cooperating.word("later tick", " "),)
+    return Own(line, lambda pace, delay: pace.tick(delay, further), cooperating.delays.append)
 
 
 def _instrumented_reschedule(self: Any) -> None:
@@ -151,7 +367,7 @@ def _tell_tick_alone(watcher: Observer, cooperating: Cooperating) -> None:
             "a scheduler of a Cooperator that gives nothing to cancel", "cooperator"
         )
     cooperating.delays.append(Time(1))
-    watcher.tell("later tick ", Time(cooperating.time + 1))
+    watcher.tell(cooperating.word("later tick", " "), Time(cooperating.time + 1))
 
 
 def _instrumented_tick(self: Any) -> None:
@@ -175,7 +391,7 @@ def _run_tick(watcher: Observer, cooperating: Cooperating) -> None:
     if cooperating.alone:
         cooperating.time += 1
         watcher.tell("advance ", Time(cooperating.time))
-    watcher.tell("tick")
+    watcher.tell(cooperating.word("tick"))
     cooperating.steps, cooperating.in_tick = 0, True
     try:
         _tick(cooperating.cooperator)
@@ -253,8 +469,13 @@ def _instrumented_complete(self: Any, state: Any, result: Any) -> None:
     if watcher is None or known is None:
         _complete(self, state, result)
         return
+    if isinstance(state, task.TaskDone):
+        watcher.texts.bind(result, known.thing)  # other tasks may have the same iterator
+    cooperating = _cooperating(watcher, self._cooperator)
     if self._completionState is not None:
         watcher.quirk(Entry.TASK_ENDED_TWICE)
+    elif cooperating is not None:
+        cooperating.live -= 1
     watcher.tell("end ", known.thing, " ", watcher.texts.outcome(result))
     try:
         _complete(self, state, result)
@@ -345,21 +566,42 @@ def _act_when_done(watcher: Observer, cooperative: Any, thing: Thing) -> Any:
     return watcher.act(action, ask)
 
 
-def _refuse(cooperator: Any, name: str) -> None:
-    """A call on a whole Cooperator, which the language hasn't."""
-    watcher = observer_of("cooperator")
-    if watcher is not None and not watcher.quiet and _cooperating(watcher, cooperator) is not None:
-        watcher.problem(f"Cooperator.{name}", "cooperator")
+# actions on whole Cooperators
+
+
+def _stop_line(cooperating: Cooperating) -> Line:
+    """The line that a Cooperator is stopped."""
+    assert cooperating.thing is not None
+    return "stopcooperator ", cooperating.thing
 
 
 def _instrumented_stop_all(self: Any) -> None:
-    _refuse(self, "stop")
-    _stop_all(self)
+    watcher = observer_of("cooperator")
+    cooperating = _cooperating(watcher, self)
+    if watcher is None or cooperating is None:
+        _stop_all(self)
+        return
+    if watcher.quiet:
+        watcher.problem("Cooperator.stop inside Twisted", "cooperator")
+        _stop_all(self)
+        return
+    if cooperating.thing is None:
+        cooperating.name_it(watcher.thing("cooperator", _made_at(watcher, self)))
+    watcher.act(Action(["stopCooperator", cooperating.thing]), _tell_stopped, watcher, cooperating)
+
+
+def _tell_stopped(watcher: Observer, cooperating: Cooperating) -> None:
+    watcher.tell(*_stop_line(cooperating))
+    if len(cooperating.cooperator._tasks) > 1:
+        watcher.quirk(Entry.TASK_LEFT_BY_STOP)
+    _stop_all(cooperating.cooperator)
 
 
 def _instrumented_start_all(self: Any) -> None:
     if self._stopped or not self._started:
-        _refuse(self, "start")
+        watcher = observer_of("cooperator")
+        if watcher is not None and not watcher.quiet and _cooperating(watcher, self) is not None:
+            watcher.problem("Cooperator.start", "cooperator")
     _start_all(self)
 
 
@@ -375,6 +617,7 @@ def install() -> None:
         "whenDone": _instrumented_when_done,
     }
     of_cooperators: Dict[str, Callable[..., Any]] = {
+        "__init__": _instrumented_making,
         "_reschedule": _instrumented_reschedule,
         "_tick": _instrumented_tick,
         "_removeTask": _instrumented_remove,
@@ -382,6 +625,8 @@ def install() -> None:
         "start": _instrumented_start_all,
     }
     setattr(_Task, "_dv_task", None)  # an object whose `__dict__` is asked for is slower from then on
+    setattr(_Cooperator, "_dv_cooperating", None)
+    setattr(_Cooperator, "_dv_made_at", None)
     for name, instrument in of_tasks.items():
         setattr(_Task, name, instrument)
     for name, instrument in of_cooperators.items():

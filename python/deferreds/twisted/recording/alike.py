@@ -124,5 +124,7 @@ def _is_same_thing(one: Thing, two: Thing) -> bool:
     while two.alias is not None:
         two = two.alias
     if one is not two:
+        if one.declared or two.declared:
+            return False
         two.alias = one
     return True

@@ -56,6 +56,8 @@ KIND_OF_ACTION: Dict[str, str] = {
     "stopLoop": "loop",
     "inline": "inline",
     "cooperate": "cooperator",
+    "cooperateIn": "cooperator",
+    "stopCooperator": "cooperator",
     "pauseTask": "cooperator",
     "resumeTask": "cooperator",
     "stopTask": "cooperator",

@@ -159,9 +159,17 @@ class Recorder(Observer):
 
     # names
 
-    def thing(self, kind: str) -> Thing:
-        """A name for an object that is made."""
-        return self.spots.thing(kind, spot())
+    def spot(self) -> Any:
+        """Where the program is, as what is made there is named."""
+        return spot()
+
+    def thing(self, kind: str, made_at: Any = None) -> Thing:
+        """A name for an object that is made here, or was made there."""
+        return self.spots.thing(kind, made_at or spot())
+
+    def locate_action(self, action: Action, inside: int) -> None:
+        """Notes where the program is, if that is where an action will have run. So many frames, from the caller's on, aren't its."""
+        self.spots.note(action, 1 + inside)
 
     def locate(self, record: Record, by_twisted: bool = False) -> None:
         """Notes where the program makes a Deferred, or Twisted's own code for it."""

@@ -13,7 +13,8 @@ from typing import Any, Dict, Iterator, List, Optional, Sequence, Set, Tuple, Un
 
 from ...language import LANGUAGE
 from .. import grammar
-from ..instruments.tasks import Cooperating
+from ..classes import is_built_in
+from ..instruments.tasks import Cooperating, Cooperators
 from ..profile import Entry
 from ..script import nodes
 from ..telling import Action, Advance, Begun, Ended, Failed, Part, Record, Thing, Time
@@ -34,6 +35,9 @@ _LARGE_SINCE = LANGUAGE.smaller["before"]
 _SMALL_LIMIT, _MOST_LIMIT = (LANGUAGE.most("limit", version) for version in (1, _LARGE_SINCE))
 _SMALL_BYTES, _MOST_BYTES = (LANGUAGE.most("bytes", version) for version in (1, _LARGE_SINCE))
 _SMALL_NODES, _MOST_NODES = (LANGUAGE.most("nodes", version) for version in (1, _LARGE_SINCE))
+#: the events that set how many steps ticks have, and in which argument an action names a Cooperator
+_CHANGES = frozenset({"units", "unitsIn"})
+_NAMES_COOPERATOR = {"cooperateIn": 2, "unitsIn": 1, "stopCooperator": 1}
 #: the fewest bytes that a node has: a digit, and what stands between it and the next
 _BYTES_OF_NODE = 2
 
@@ -53,8 +57,10 @@ class Said:
         #: those of the problems that are of the size of the whole run alone: the script is of its beginning
         self.too_large: List[Problem] = []
         self._ended = len(recorder.events) if ended is None else min(ended, len(recorder.events))
-        #: what number of steps ticks have at first; None, if a script can't say what they have
-        self._tick_units: Optional[int] = None
+        #: what number of steps the ticks of each Cooperator have at first, by its number of Python, if a script can say what they have
+        self._tick_units: Dict[int, int] = {}
+        #: the Cooperators that are named in the script, by the numbers of Python for their names
+        self._used: Set[int] = set()
         self._settle()
         self._change_units()
         #: how many events the script has
@@ -162,24 +168,31 @@ class Said:
             self._ended -= 1
         return bisect_left(self._places, self._ended)
 
+    def _cooperators(self) -> List[Cooperating]:
+        """The Cooperators that are recorded as such."""
+        known = self._recorder.cooperator
+        return known.all() if isinstance(known, Cooperators) else []
+
     def _change_units(self) -> None:
         """Has ticks have as many steps as they had: each change is an event of its own, before the advance in which its first tick runs."""
-        cooperating = self._recorder.cooperator
-        if not isinstance(cooperating, Cooperating):
-            return
-        try:
-            changes = changes_of(cooperating.ticks)
-            places = places_of(changes[1:], self._recorder.events)
-        except Uneven:
-            return
-        self._tick_units = changes[0].units if changes else grammar.UNITS[-1]
-        if not places:
+        changed: Dict[int, List[Action]] = {}
+        for cooperating in self._cooperators():
+            try:
+                changes = changes_of(cooperating.ticks)
+                places = places_of(changes[1:], self._recorder.events)
+            except Uneven:
+                continue
+            self._tick_units[id(cooperating)] = changes[0].units if changes else grammar.UNITS[-1]
+            for place, units in places.items():
+                change = ["units", units] if cooperating.thing is None else ["unitsIn", cooperating.thing, units]
+                changed.setdefault(place, []).append(Action(change))
+        if not changed:
             return
         before = list(zip(self.actions, self._begins, self._places))
         self.actions, self._begins, self._places = [], [], []
         for place, (action, begin, at) in enumerate(before):
-            if place in places:
-                self._add_event(Action(["units", places[place]]), begin, at)
+            for change in changed.get(place, ()):
+                self._add_event(change, begin, at)
             self._add_event(action, begin, at)
 
     def _add_event(self, action: Action, begin: int, place: int) -> None:
@@ -249,16 +262,16 @@ class Said:
         """Says the journal, at which of its lines each event begins, and after how many of them Twisted did what an entry of the
         profile names."""
         texts = [part if type(part) is str else self._part(part) for part in self._recorder.parts]
-        changes = [place for place, action in enumerate(self.actions) if action[0] == "units"]
-        for place in changes:
-            begin = self._begins[place]
-            texts[begin] = f"units {self.actions[place][1]}\n{texts[begin]}"
+        changes = [place for place, action in enumerate(self.actions) if action[0] in _CHANGES]
+        for place in reversed(changes):
+            begin, (word, *parts) = self._begins[place], self.actions[place]
+            texts[begin] = f"{word.lower()} {' '.join(map(str, parts))}\n{texts[begin]}"
         self.journal = "".join(texts).split("\n")[:-1]
         before = [0, *accumulate(text.count("\n") for text in texts)]
         self.quirks = [(before[place], entry) for place, entry in self._recorder.quirks]
         self.begins = [before[place] for place in self._begins]
-        for place in changes:
-            self.begins[place + 1] += 1
+        for place in changes:  # (those in a row are before the same event)
+            self.begins[place + 1] = self.begins[place] + 1
 
     def _part(self, part: Optional[Part]) -> str:
         """A part of a line, or its end."""
@@ -292,8 +305,7 @@ class Said:
         try:
             inner = [self._find_bodies(action) for action in self.actions[: self.events]]
             events = [self._event(action, bodies) for action, bodies in zip(self.actions, inner)]
-            if isinstance(self._recorder.cooperator, Cooperating):
-                script["cooperator"] = self._cooperator(self._recorder.cooperator)
+            self._say_cooperators(script)
         except CannotSay:
             return None
         if self._recorder.pools:
@@ -315,16 +327,22 @@ class Said:
         self._declared.forget()
         self.acted.clear()
         self._chains.clear()
+        self._used.clear()
         return self._script()
 
     def _finish(self, script: Dict[str, Any]) -> None:
         """Sets the limit and the version of a script, and says it as JSON."""
         self._set_limit(script)
-        script["version"] = self._version(script)
-        self.text = compact(script)
+        self._set_version(script, self._version(script))
         if script["version"] < _LARGE_SINCE and self._is_large(script):
-            script["version"] = _LARGE_SINCE
-            self.text = compact(script)
+            self._set_version(script, _LARGE_SINCE)
+
+    def _set_version(self, script: Dict[str, Any], version: int) -> None:
+        """Sets the version of a script, which declares no class that this has, and says it as JSON."""
+        script["version"] = version
+        if "classes" in script:
+            script["classes"] = [list(pair) for pair in self._recorder.classes.declared if not is_built_in(pair[0], version)]
+        self.text = compact({key: value for key, value in script.items() if value or key != "classes"})
 
     def _is_large(self, script: Dict[str, Any]) -> bool:
         """Whether a script is longer, or has more nodes, than one of the first version may."""
@@ -398,6 +416,8 @@ class Said:
         return words
 
     def _words(self, said: Action) -> List[Any]:
+        if said[0] in _NAMES_COOPERATOR:
+            self._used.add(id(said[_NAMES_COOPERATOR[said[0]]]))
         chained = self._chains.get(id(said))
         if chained is not None:
             return ["chain", self._say(said[1]), self._say(chained[1])]
@@ -512,8 +532,19 @@ class Said:
             return body.runs
         return [run for run in body.runs if run.began + self._recorder.preceding <= self._ended]
 
+    def _say_cooperators(self, script: Dict[str, Any]) -> None:
+        """Says the Cooperators: the one that has no name, and those by name that the script uses."""
+        named: List[List[Any]] = []
+        for cooperating in self._cooperators():
+            if cooperating.thing is None:
+                script["cooperator"] = self._cooperator(cooperating)
+            elif id(cooperating.thing) in self._used:
+                named.append([cooperating.thing.name, self._cooperator(cooperating)])
+        if named:
+            script["cooperators"] = named
+
     def _cooperator(self, cooperating: Cooperating) -> Dict[str, int]:
-        units = self._tick_units
+        units = self._tick_units.get(id(cooperating))
         if units is None:
             raise self._cannot("ticks of different numbers of steps", "cooperator")
         delays = {exact(delay.seconds) for delay in cooperating.delays} or {Fraction(1)}
@@ -579,7 +610,7 @@ class Said:
         """What the lines before each event weigh, and before the end of the script."""
         before = list(accumulate(map(_weight, self._recorder.parts), initial=0))
         begins = [*self._begins, len(self._recorder.parts)]
-        changes = accumulate((action[0] == "units" for action in self.actions), initial=0)
+        changes = accumulate((action[0] in _CHANGES for action in self.actions), initial=0)
         return [before[place] + more for place, more in zip(begins[: self.events + 1], changes)]
 
 

@@ -20,6 +20,9 @@ decreases-action::add_timeout l = 16 * l.levels + 3
 abbrev pub decreases-action::cooperate : goal.decreases-action::cooperate
 decreases-action::cooperate l = 16 * l.levels + 3
 
+abbrev pub decreases-action::cooperate_in : goal.decreases-action::cooperate_in
+decreases-action::cooperate_in l = 16 * l.levels + 3
+
 abbrev pub decreases-action::deferred : goal.decreases-action::deferred
 decreases-action::deferred l = 16 * l.levels + 3
 

@@ -6,4 +6,4 @@ use Rattle.dv_language.proofs.beside.class_rows.Given as goal
 abbrev pub invariant-loop-class : goal.invariant-loop-class
 invariant-loop-class l =
     map view l.rows.items
-    ≡ map (λ class. class_row class.0.now (option_map (λ parent. parent.now) class.1)) (take l.class-index l.classes)
+    ≡ map (λ class. class_row class.2 class.0.now (option_map (λ parent. parent.now) class.1)) (take l.class-index l.classes)

@@ -34,3 +34,9 @@ ten = decimal_step 10 (omega arith) (omega arith) ∙ ap (λ digits. digits ++ c
 
 pub returns-in-BadBody : goal.returns-in-BadBody
 returns-in-BadBody c = rw c.in-BadBody.is (rw ten refl)
+
+eleven : decimal 11 ≡ codes "11"
+eleven = decimal_step 11 (omega arith) (omega arith) ∙ ap (λ digits. digits ++ codes "1") (decimal_digit 1 (omega arith))
+
+pub returns-in-BadCooperator : goal.returns-in-BadCooperator
+returns-in-BadCooperator c = rw c.in-BadCooperator.is (rw eleven refl)

@@ -9,7 +9,11 @@ pub returns : goal.returns
 returns c = λ is.
     let d = view c.args.json.now in
     let draft = c.args.draft.now in
-    sound d draft (ap (λ ps. answers (every draft.version draft.script.classes ps draft.script.bodies) d draft)
+    let s = draft.script in
+    let v = draft.version in
+    sound d draft (ap (λ ps. answers (every v s.classes ps s.bodies s.cooperators) d draft)
     (sym c.as_slice-pools.ensures)
-    ∙ ap (λ bs. answers (every draft.version draft.script.classes c.as_slice-pools.result.now bs) d draft)
-    (sym c.as_slice-bodies.ensures) ∙ sym c.answers.ensures ∙ is)
+    ∙ ap (λ bs. answers (every v s.classes c.as_slice-pools.result.now bs s.cooperators) d draft)
+    (sym c.as_slice-bodies.ensures)
+    ∙ ap (λ cs. answers (every v s.classes c.as_slice-pools.result.now c.as_slice-bodies.result.now cs) d draft)
+    (sym c.as_slice-cooperators.ensures) ∙ sym c.answers.ensures ∙ is)

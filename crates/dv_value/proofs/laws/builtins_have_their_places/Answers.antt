@@ -15,4 +15,5 @@ returns c = record {
   queue_overflow = refl;
   queue_underflow = refl;
   timeout_error = refl;
+  scheduler_stopped = refl;
 }

@@ -1,9 +1,10 @@
 use Rattle.std.proofs.Common.{◌≡◌, true, false, codes, sym, ◌∙◌}
 use Rattle.std.proofs.lemmas.Bool.{leb-true}
 use Rattle.serde_json.specs.View.{view}
-use Rattle.dv_script.specs.declared.limits.TheConstants.{MOST_BODIES, MOST_CALLERS, MOST_CLASSES, MOST_POOLS}
+use Rattle.dv_script.specs.declared.limits.TheConstants.{MOST_BODIES, MOST_CALLERS, MOST_CLASSES, MOST_COOPERATORS}
+use Rattle.dv_script.specs.declared.limits.TheConstants.{MOST_POOLS}
 use Rattle.dv_forms.specs.Limits.{most_nodes}
-use Rattle.dv_reader.specs.Limits.{nodes, is_small}
+use Rattle.dv_reader.specs.Limits.{all_nodes, is_small}
 use Rattle.dv_why.specs.Counts.{count_in}
 use Rattle.dv_why.specs.Documents.{version_in}
 use Rattle.dv_why.specs.Wrong.{many_posts}
@@ -18,17 +19,20 @@ returns-in-Some-clause-wrong c =
 pub returns-clause-wrong : goal.returns-clause-wrong
 returns-clause-wrong c =
     let d = view c.args.json.now in
-    let draft = c.requires.0 in
-    let small : is_small d draft ≡ true = few_small d draft c.requires.1.shape (record {
+    let draft = c.requires.refused.0 in
+    let small : is_small d draft ≡ true = few_small d draft c.requires.shallow c.requires.refused.1.shape (record {
       nodes =
-          leb-true (nodes d) (most_nodes (version_in d))
+          leb-true (all_nodes d) (most_nodes (version_in d))
           (rw c.version_of-version.ensures at (sym c.has_few_nodes.ensures ∙ c.if-not-has_few_nodes.false));
       classes = not_more MOST_CLASSES (count_in (codes "classes") d) (sym c.is_long.ensures ∙ c.if-is_long.false);
       pools = not_more MOST_POOLS (count_in (codes "pools") d) (sym c.is_long-2.ensures ∙ c.if-is_long-2.false);
       bodies = not_more MOST_BODIES (count_in (codes "bodies") d) (sym c.is_long-3.ensures ∙ c.if-is_long-3.false);
-      callers = not_more MOST_CALLERS (count_in (codes "callers") d) (sym c.is_long-4.ensures ∙ c.if-is_long-4.false);
+      cooperators =
+          not_more MOST_COOPERATORS (count_in (codes "cooperators") d)
+          (sym c.is_long-4.ensures ∙ c.if-is_long-4.false);
+      callers = not_more MOST_CALLERS (count_in (codes "callers") d) (sym c.is_long-5.ensures ∙ c.if-is_long-5.false);
       posts = c.in_ok-misfit.ensures.none c.in_default.is;
-      ticks = rw c.items_of.ensures at (not_cut _ _ c.ticks_in.ensures c.if-ticks_in-gt-MOST_TICKS.false);
+      ticks = rw c.items_of.ensures at (not_cut _ _ c.ticks_among.ensures c.if-ticks_among-gt-MOST_TICKS.false);
     }) in
-    let large : is_small d draft ≡ false = c.requires.2 in
+    let large : is_small d draft ≡ false = c.requires.refused.2 in
     cc

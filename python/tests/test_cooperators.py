@@ -1,0 +1,258 @@
+"""Programs that have several Cooperators, or stop one: those after the first are recorded by name."""
+
+from __future__ import annotations
+
+import json
+import unittest
+from typing import Any, Callable, Dict, Iterator, List
+from unittest import mock
+
+from twisted.internet import defer, task
+
+from deferreds.twisted import grammar
+from deferreds.twisted.running import run
+from deferreds.twisted.telling import KINDS
+
+from .test_declared import Case
+from .test_recording import recorded
+
+
+def work(steps: int) -> Iterator[None]:
+    """So many steps of a task."""
+    for _ in range(steps):
+        yield None
+
+
+def steps_of(units: List[int]) -> Callable[[], Callable[[], bool]]:
+    """Has a tick have as many steps as the first of these numbers says."""
+
+    def begin() -> Callable[[], bool]:
+        left = [units[0]]
+
+        def is_over() -> bool:
+            left[0] -= 1
+            return left[0] <= 0
+
+        return is_over
+
+    return begin
+
+
+def cooperator_on(clock: task.Clock, delay: float, units: int = 1) -> task.Cooperator:
+    """A Cooperator whose ticks are so far from each other."""
+    return task.Cooperator(steps_of([units]), lambda tick: clock.callLater(delay, tick))
+
+
+def words_of(script: Dict[str, Any]) -> List[str]:
+    """The words of the events of a script."""
+    return [event[0] for event in script["events"]]
+
+
+class Several(Case):
+    """Several Cooperators of a run."""
+
+    def test_the_first_that_gets_a_task_has_no_name(self) -> None:
+        def program() -> None:
+            clock = task.Clock()
+            idle, slow, fast = cooperator_on(clock, 1), cooperator_on(clock, 5, 2), cooperator_on(clock, 1)
+            self.assertTrue(idle.running)
+            fast.cooperate(work(3))
+            slow.cooperate(work(2))
+            slow.cooperate(work(1))
+            for _ in range(12):
+                clock.advance(1)
+
+        said = self.said_of(program)
+        script = json.loads(said.text)
+        [[name, settings]] = script["cooperators"]
+        self.assertEqual((script["version"], script["cooperator"], settings), (3, {"units": 1, "delay": 1}, {"units": 2, "delay": 5}))
+        self.assertEqual([event[2] for event in script["events"] if event[0] == "cooperateIn"], [name, name])
+        self.assertRegex(name, "^cooperator_cooperator_o")
+        self.assertEqual([line for line in said.journal if "tickin" in line][:2], [f"later tickin {name} 5", f"tickin {name}"])
+
+    def test_a_run_of_one_has_the_version_of_before(self) -> None:
+        def program() -> None:
+            clock = task.Clock()
+            task.Cooperator(scheduler=lambda tick: clock.callLater(1, tick)).stop()
+            cooperator_on(clock, 1).cooperate(work(1))
+            clock.advance(1)
+
+        script = self.script_of(program)
+        self.assertEqual((script["version"], "cooperators" in script, words_of(script)), (1, False, ["cooperate", "advance"]))
+
+    def test_numbers_of_steps_change_by_themselves(self) -> None:
+        first, second = [3], [1]
+
+        def program() -> None:
+            clock = task.Clock()
+            for units in (first, second):
+                cooperator = task.Cooperator(steps_of(units), lambda tick: clock.callLater(1, tick))
+                cooperator.cooperate(work(20))
+            clock.advance(1)
+            clock.advance(1)
+            second[0] = 2
+            clock.advance(1)
+            first[0], second[0] = 1, 4
+            clock.advance(1)
+
+        said = self.said_of(program)
+        script = json.loads(said.text)
+        name = script["cooperators"][0][0]
+        self.assertEqual([event for event in script["events"] if "units" in event[0]], [["unitsIn", name, 2], ["units", 1], ["unitsIn", name, 4]])
+        begun = [said.journal[line].split(" ")[0] for line in said.begins]
+        self.assertEqual(begun, ["task", "taskin", "advance", "advance", "unitsin", "advance", "units", "unitsin", "advance"])
+
+    def test_one_whose_tasks_have_ended_leaves_its_name_to_the_next(self) -> None:
+        def program() -> None:
+            clock = task.Clock()
+            cooperator_on(clock, 1).cooperate(work(1))
+
+            def download() -> None:
+                cooperator = cooperator_on(clock, 1)
+                defer.DeferredList([cooperator.coiterate(work(2)) for _ in range(1)])
+
+            loop = task.LoopingCall(download)
+            loop.clock = clock  # type: ignore[assignment]
+            loop.start(10)
+            for _ in range(35):
+                clock.advance(1)
+
+        said = self.said_of(program)
+        script = json.loads(said.text)
+        self.assertEqual(len(script["cooperators"]), 1)
+        self.assertEqual(sum(line.startswith("taskin ") for line in said.journal), 4)
+
+    def test_those_that_go_on_have_names_of_their_own(self) -> None:
+        def program() -> None:
+            clock = task.Clock()
+            for _ in range(3):
+                cooperator_on(clock, 1).cooperate(work(3))
+            for _ in range(4):
+                clock.advance(1)
+
+        script = self.script_of(program)
+        self.assertEqual(len({name for name, _ in script["cooperators"]}), 2)
+
+    def test_no_more_get_names_than_a_script_may_have(self) -> None:
+        def program() -> None:
+            clock = task.Clock()
+            for _ in range(6):
+                cooperator_on(clock, 1).cooperate(work(2))
+            for _ in range(3):
+                clock.advance(1)
+
+        with mock.patch.object(grammar, "MOST_COOPERATORS", 3):
+            script = self.script_of(program)
+        self.assertEqual(len(script["cooperators"]), 2)
+        self.assertEqual([word for word in words_of(script) if word != "advance"], ["cooperate", "cooperateIn", "cooperateIn"] + ["later"] * 3)
+
+
+class Stopped(Case):
+    """Cooperators that are stopped."""
+
+    def test_tasks_that_take_turns_wait_or_are_paused(self) -> None:
+        held: List[defer.Deferred[Any]] = []
+
+        def program() -> None:
+            clock = task.Clock()
+            cooperator_on(clock, 1).cooperate(work(1))
+            other = cooperator_on(clock, 2, 9)
+            held.append(defer.Deferred())
+            busy, waiting, paused = (other.cooperate(each) for each in (work(9), iter(held), work(9)))
+            paused.pause()
+            for each in (busy, waiting, paused):
+                each.whenDone().addErrback(lambda failure: failure.trap(task.SchedulerStopped) and None)
+            clock.advance(2)
+            other.stop()
+            clock.advance(2)
+            paused.resume()
+            held.pop().callback(None)
+            other.stop()
+
+        said = self.said_of(program)
+        lines = [line.split(" ")[0] for line in said.journal if "SchedulerStopped" in line or line.startswith("stopcooperator")]
+        self.assertEqual(lines, ["stopcooperator", *["end", "fire"] * 3, "stopcooperator"])
+        self.assertEqual(said.quirks, [])
+        self.assertNotIn("classes", json.loads(said.text))
+
+    def test_the_first_of_a_run_has_a_name_from_the_beginning_on(self) -> None:
+        def program() -> None:
+            clock = task.Clock()
+            first = cooperator_on(clock, 1)
+            done = first.cooperate(work(5)).whenDone()
+            clock.advance(1)
+            done.addErrback(lambda failure: first.stop())
+            first.stop()
+            first.cooperate(work(1))
+
+        script = self.script_of(program)
+        self.assertEqual(("cooperator" in script, len(script["cooperators"])), (False, 1))
+        self.assertEqual(words_of(script)[0], "cooperateIn")
+        self.assertEqual(script["events"][3][2]["do"], [["stopCooperator", script["cooperators"][0][0]]])
+
+    def test_one_that_was_stopped_before_is_stopped_where_it_is_met(self) -> None:
+        def program() -> None:
+            stopped = task.Cooperator()
+            stopped.stop()
+            stopped.cooperate(work(1)).whenDone().addErrback(lambda failure: None)
+
+        script = self.script_of(program)
+        self.assertEqual(words_of(script), ["stopCooperator", "cooperateIn", "whenDone", "addErrback"])
+
+    def test_the_class_is_declared_where_the_version_has_it_not(self) -> None:
+        def program() -> None:
+            clock = task.Clock()
+            cooperator = cooperator_on(clock, 1)
+            cooperator.cooperate(work(2)).whenDone().addErrback(lambda failure: None)
+            cooperator.stop()
+
+        said = recorded(program, KINDS - {"cooperator"})
+        script = json.loads(said.text)
+        self.assertEqual((script["version"], script["classes"]), (1, [["SchedulerStopped", "SchedulerError"]]))
+        self.assertEqual(run(said.text.encode()).output, said.output)
+
+    def test_one_that_is_started_again_is_refused(self) -> None:
+        def program() -> None:
+            clock = task.Clock()
+            cooperator = cooperator_on(clock, 1)
+            cooperator.cooperate(work(2))
+            cooperator.stop()
+            cooperator.start()
+
+        self.assertEqual([(problem.reason, problem.kind) for problem in recorded(program).problems], [("Cooperator.start", "cooperator")])
+
+
+class Plain(Case):
+    """Cooperators that a script can't have are recorded as the Python that they are made of."""
+
+    def plainly(self, make: Callable[[task.Clock], task.Cooperator]) -> Dict[str, Any]:
+        """The script of a run in which the second Cooperator is made so."""
+
+        def program() -> None:
+            clock = task.Clock()
+            cooperator_on(clock, 1).cooperate(work(2))
+            made = make(clock)
+            done = made.cooperate(work(2)).whenDone()
+            if not made.running:
+                made.start()
+            for _ in range(4):
+                clock.advance(1)
+            self.assertTrue(done.called)
+
+        script = self.script_of(program)
+        self.assertEqual((script["version"], "cooperators" in script), (1, False))
+        return script
+
+    def test_a_scheduler_that_does_something_else(self) -> None:
+        script = self.plainly(lambda clock: task.Cooperator(steps_of([9]), lambda tick: clock.callLater(1, lambda: tick())))
+        self.assertEqual(words_of(script)[:3], ["cooperate", "later", "deferred"])
+
+    def test_ticks_that_are_due_at_once(self) -> None:
+        self.plainly(lambda clock: task.Cooperator(steps_of([9]), lambda tick: clock.callLater(0, tick)))
+
+    def test_one_that_is_made_unstarted(self) -> None:
+        self.plainly(lambda clock: task.Cooperator(steps_of([9]), lambda tick: clock.callLater(1, tick), started=False))
+
+
+if __name__ == "__main__":
+    unittest.main()
