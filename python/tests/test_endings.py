@@ -160,6 +160,14 @@ class Statuses(RecordingCase):
         self.assert_goes_together("os_exit")
         self.assertEqual(self.facts("os_exit")["ended"], "os._exit")
 
+    def test_os_exit_in_a_step_that_is_recorded_as_events(self) -> None:
+        ended = self.record("-o", "run", "tick_around_a_call.py", "third 1")
+        self.assertEqual(ended.status, 0, ended.said)
+        self.assertIn("further Cooperators are recorded as events: ", ended.said)
+        self.assertRegex(ended.said, "the script is of the first [0-9]+ of [0-9]+ events, since an event was under way at the end")
+        self.assertIn('note "a call"', self.text("run.whole.journal"))
+        self.assert_goes_together("run")
+
     def test_what_a_script_cant_say(self) -> None:
         program = self.folder / "by_hand.py"
         program.write_text("from twisted.internet import defer\ndefer.succeed(1)\n", encoding="utf-8")

@@ -57,12 +57,12 @@ def _text(path: Path) -> str:
 class RealReactor(unittest.TestCase):
     """A program that has its reactor run."""
 
-    def recorded(self, name: str, by_chance: Optional[str] = None) -> Recording:
-        """Its recording, which the program reproduces. Refused for this reason, by chance, it is recorded again, at most twice."""
-        recording = Recording(name)
+    def recorded(self, name: str, by_chance: Optional[str] = None, *words: str) -> Recording:
+        """Its recording, which the program reproduces. If this is said, which may be by chance, it is recorded again, at most twice."""
+        recording = Recording(name, *words)
         for _ in range(2):
             if by_chance is not None and by_chance in recording.said:
-                recording = Recording(name)
+                recording = Recording(name, *words)
         self.assertEqual(recording.status, 0, recording.said)
         self.assertEqual(ours().answer(recording.script).output, recording.journal)
         return recording
@@ -185,11 +185,26 @@ class RealReactor(unittest.TestCase):
 
     def test_ticks_of_several_cooperators(self) -> None:
         # on a loaded machine a tick may come when one of another Cooperator is due
-        recording = self.recorded("tickers", "ran in another order than they are due in")
+        recording = self.recorded("tickers", "further Cooperators are recorded as events")
+        if "further Cooperators are recorded as events" in recording.said:
+            self.skipTest("the machine is too busy for ticks in the order in which they are due")
         script = json.loads(recording.script)
         self.assertEqual([settings["delay"] * recording.tick for _, settings in script["cooperators"]], [Fraction(2, 100), Fraction(3, 1_000)])
         ended = [line.split(" ")[2:] for line in recording.lines if line.startswith("end ") and "SchedulerStopped" in line]
         self.assertEqual(ended, [["fail", "SchedulerStopped", '""']] * 2)
+
+    def test_cooperators_that_no_script_has_by_name(self) -> None:
+        for name, note in (("tick_around_a_call", "a call"), ("cooperators_as_events", "ended AlreadyCalledError")):
+            with self.subTest(name):
+                recording = self.recorded(name)
+                self.assertIn("further Cooperators are recorded as events: ", recording.said)
+                script = json.loads(recording.script)
+                self.assertEqual(("cooperators" in script, [event[0] for event in script["events"]].count("cooperate")), (False, 1))
+                self.assertEqual([line for line in recording.lines if line.split(" ")[0] in ("taskin", "tickin", "hold", "whendone")], [])
+                self.assertIn(f'note "{note}"', recording.lines)
+
+    def test_the_last_events_of_cooperators_that_no_script_has_by_name(self) -> None:
+        self.recorded("tick_around_a_call", None, "--last", "10")
 
     def test_bodies_that_nest_are_told(self) -> None:
         recording = self.recorded("piece_by_piece")

@@ -8,7 +8,7 @@ from typing import Any, Callable, Dict, List, NamedTuple, Optional, Tuple
 
 from twisted.internet import task
 
-from deferreds.twisted.instruments.settling import MILLISECOND, Conflict, Entry, Loop, Step, Tick, settle
+from deferreds.twisted.instruments.settling import MILLISECOND, Conflict, Entry, Loop, Step, Tick, settle, without_ticks
 
 
 class History:
@@ -319,13 +319,51 @@ class Fixed(unittest.TestCase):
         self.assertEqual(tick.due - tick.at, 15_000)
 
 
+class Left(unittest.TestCase):
+    """Ticks of further Cooperators that come from elsewhere, as where no times give their order."""
+
+    def setUp(self) -> None:
+        self.history = History()
+
+    def settled_without(self, *matters: Step) -> List[Tuple[bool, float]]:
+        """The times where these ticks are left out, but for some in which something happens. With them there are no times."""
+        with self.assertRaises(Conflict):
+            self.history.settled()
+        self.history.steps = without_ticks(self.history.steps, matters.__contains__)
+        return self.history.settled()
+
+    def test_a_call_between_ticks_that_another_has_scheduled(self) -> None:
+        older, starts = self.history.later(20), self.history.later(10)
+        self.history.run(starts, 10)
+        first, second = self.history.tick(0, True), self.history.tick(0, True)
+        ran = [self.history.run(entry, 30) for entry in (first, older, second)]
+        again = self.history.tick(0, True)
+        self.history.end(again)
+        self.assertEqual(self.settled_without(ran[0], ran[2]), [(True, 10), (True, 19), (True, 30), (False, 30)])
+        self.assertEqual((older.due, ran[0].entry, ran[2].made, ran[2].ended), (20_000, None, [], []))
+
+    def test_what_a_tick_has_scheduled_is_kept(self) -> None:
+        turn = self.history.turn(self.history.loop(20, 0), 1)
+        tick = self.history.tick(0, True)
+        late = self.history.turn(self.history.loop(20, 0), 1)
+        self.history.run(turn, 21)
+        self.history.run(late, 21)
+        self.history.run(tick, 21)
+        call = self.history.later(5)
+        self.assertTrue(call.inside)
+        self.history.run(call, 27)
+        self.settled_without()
+        self.assertEqual(([step.entry for step in self.history.steps[1:]], call.inside, call.due - call.at), ([turn, late, None, call], False, 5_000))
+
+
 class Simulated:
     """A reactor that runs what is due late, by a seed: calls, loops, cancels, and what comes from elsewhere.
 
-    `blocks`: how many milliseconds a body may block; `moves`: whether calls are reset and delayed, too.
+    `blocks`: how many milliseconds a body may block; `moves`: whether calls are reset and delayed, too; `ticks`: of how many Cooperators,
+    in the place of loops.
     """
 
-    def __init__(self, seed: int, blocks: float, moves: bool) -> None:
+    def __init__(self, seed: int, blocks: float, moves: bool, ticks: int = 0) -> None:
         self._random = random.Random(seed)
         self.blocks = blocks
         self.moves = moves
@@ -333,10 +371,12 @@ class Simulated:
         self._now = 0.0
         #: what waits, by when it is due on the reactor
         self._waiting: List[Tuple[float, int, Entry]] = []
-        for interval in self._random.sample([5, 10, 20, 25], self._random.randrange(4)):
+        for interval in self._random.sample([5, 10, 20, 25], 0 if ticks else self._random.randrange(4)):
             self._schedule_turn(self.history.loop(interval, 0), 1)
         for _ in range(4):
             self._schedule()
+        for place in range(ticks):
+            self._schedule_tick(place > 0)
 
     def run(self) -> None:
         """Some turns of the reactor."""
@@ -364,7 +404,9 @@ class Simulated:
             self._schedule_turn(entry.loop, int(self._now * MILLISECOND) // entry.loop.interval + 1)
         if self._random.random() < 0.6:
             self._schedule()
-        calls = [each for each in self._waiting if each[2].loop is None]
+        if entry.tick is not None:
+            self._schedule_tick(entry.tick.further)
+        calls = [each for each in self._waiting if not each[2].is_fixed]
         if calls and self._random.random() < 0.2:
             ended = self._random.choice(calls)
             self._waiting.remove(ended)
@@ -385,6 +427,10 @@ class Simulated:
         delay = self._random.choice([0, 1, 10, self._random.random() * 30])
         entry = self.history.later(delay)
         self._waiting.append((self._now + delay + 0.001, entry.order, entry))
+
+    def _schedule_tick(self, further: bool) -> None:
+        entry = self.history.tick(0, further)
+        self._waiting.append((self._now + 0.001, entry.order, entry))
 
     def _schedule_turn(self, loop: Loop, number: int) -> None:
         entry = self.history.turn(loop, number)
@@ -452,19 +498,21 @@ class Replay(unittest.TestCase):
                 happens(step, False)
         return ran
 
-    def settled(self, blocks: float, moves: bool = False) -> int:
-        """How many of 300 runs are recorded, each of which the clock runs in the same order."""
+    def settled(self, blocks: float, moves: bool = False, ticks: int = 0, leaves: bool = False) -> int:
+        """How many of 300 runs are recorded, each of which the clock runs in the same order. `leaves`: without ticks of further Cooperators."""
         settled = 0
         for seed in range(300):
-            simulated = Simulated(seed, blocks, moves)
+            simulated = Simulated(seed, blocks, moves, ticks)
             simulated.run()
             steps = simulated.history.steps
+            if leaves:
+                steps = without_ticks(steps, lambda step: bool(len(step.made) % 2))
             try:
                 settle(steps)
             except Conflict:
                 continue
             settled += 1
-            with self.subTest(seed=seed, blocks=blocks, moves=moves):
+            with self.subTest(seed=seed, blocks=blocks, moves=moves, ticks=ticks, leaves=leaves):
                 self.assertEqual(self.replayed(steps, moves), [step.entry for step in steps if step.entry is not None])
         return settled
 
@@ -477,6 +525,10 @@ class Replay(unittest.TestCase):
     def test_so_it_does_where_calls_are_moved(self) -> None:
         self.assertGreater(self.settled(0.1, moves=True), 270)
         self.assertGreater(self.settled(30, moves=True), 100)
+
+    def test_so_it_does_where_ticks_of_further_cooperators_come_from_elsewhere(self) -> None:
+        self.assertEqual(self.settled(0.1, ticks=3, leaves=True), 300)
+        self.assertEqual(self.settled(30, ticks=3, leaves=True), 300)
 
 
 if __name__ == "__main__":

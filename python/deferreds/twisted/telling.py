@@ -209,6 +209,8 @@ class Thing:
     alias: Optional["Thing"] = None
     #: whether a script declares it, so that no action binds its name anew
     declared = False
+    #: whether it is a further Cooperator, or a task of one
+    is_further = False
 
     def __init__(self, name: str, find_name: Optional[Callable[[], None]] = None) -> None:
         """`find_name` sets the name where that isn't known yet, and is called where it is asked for."""
@@ -256,6 +258,8 @@ class Action(List[Any]):
     caught = False
     #: the Deferred of the inline body in which such a one is logged
     helper: Optional[Record] = None
+    #: of what a further Cooperator does on a real reactor: after how many parts of lines it did what by itself, an action or a step
+    inner: Optional[List[Tuple[int, Any]]] = None
 
 
 class Advance(Action):
@@ -729,8 +733,8 @@ class Observer:
         """A step of a task begins: its body."""
         return self.new_body("step")
 
-    def end_steps(self, steps: Any, body: Any) -> None:
-        """A task has ended, in a step that has no body."""
+    def end_steps(self, steps: Any, body: Any, kind: str) -> None:
+        """A task has ended, in a step that has no body. `kind`: that of the problem, where this is one."""
 
     def begin_inline(self, body: Any) -> bool:
         """The program is about to begin an inline body. Whether `end_inline_action` has to be called when it waits, or has ended."""

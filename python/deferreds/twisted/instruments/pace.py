@@ -11,7 +11,7 @@ from typing import Any, Callable, Dict, List, NamedTuple, Optional, Tuple
 from twisted.internet import base
 
 from ..telling import Action, Advance, Observer, Time
-from .settling import MILLISECOND, UNITS, Conflict, Entry, Loop, Step, Tick, settle
+from .settling import MILLISECOND, UNITS, Conflict, Entry, Loop, Step, Tick, settle, without_ticks
 
 #: how far apart loops may start in a body, and be told to start at one time
 _APART = 50 * MILLISECOND
@@ -246,6 +246,13 @@ class Pace:
         return advance
 
     # times
+
+    def leave_ticks(self, has_events: Callable[[Advance], bool]) -> None:
+        """Has ticks of further Cooperators come from elsewhere, those in which something happens: an event, or something is scheduled."""
+        kept = without_ticks(self._steps, lambda step: has_events(self._advances[step]))
+        for step in set(self._steps).difference(kept):
+            self._advances.pop(step).is_told = False
+        self._steps = kept
 
     def settle(self) -> Optional[Conflict]:
         """Sets the times of all lines and actions: why there are none, where no times give what happened."""

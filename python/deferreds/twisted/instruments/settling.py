@@ -16,7 +16,7 @@ order no times give is refused.
 from __future__ import annotations
 
 from bisect import bisect_left, insort
-from typing import Dict, Iterator, List, NamedTuple, Optional, Sequence, Set, Tuple
+from typing import Callable, Dict, Iterator, List, NamedTuple, Optional, Sequence, Set, Tuple
 
 UNITS = 1_000_000
 MILLISECOND = UNITS // 1000
@@ -64,7 +64,7 @@ class Manner(NamedTuple):
 MANNERS = (
     Manner(MILLISECOND, False, MILLISECOND),
     Manner(MILLISECOND, False, 1),
-    Manner(1, True, 1),
+    *(Manner(1, True, tick) for tick in (1, 200, 10)),
 )
 #: how many of them come before those that have the reactor's times
 _ROUND = 2
@@ -143,6 +143,11 @@ class Entry:
         return self.loop is not None or self.tick is not None
 
     @property
+    def is_further(self) -> bool:
+        """Whether it is a tick of another Cooperator than the first."""
+        return self.tick is not None and self.tick.further
+
+    @property
     def key(self) -> Key:
         """Its place among what waits."""
         return self.due, self.order, self.moved
@@ -174,6 +179,32 @@ class Step:
         """Something that waits is cancelled."""
         self.ended.append((entry, self.entry is not None and not self.closed))
 
+    def leave_ticks(self) -> bool:
+        """Leaves out ticks of further Cooperators. Gives whether it has run one: then it comes from elsewhere from now on."""
+        self.made = [entry for entry in self.made if not entry.is_further]
+        self.ended = [(entry, is_inside) for entry, is_inside in self.ended if not entry.is_further]
+        if self.entry is None or not self.entry.is_further:
+            return False
+        self.entry = None
+        self.ended = [(entry, False) for entry, _ in self.ended]
+        for entry in self.made:
+            entry.inside = False
+        return True
+
+
+def without_ticks(steps: Sequence[Step], matters: Callable[[Step], bool]) -> List[Step]:
+    """The steps, of which those that run a tick of a further Cooperator come from elsewhere. Those in which nothing matters are left out."""
+    kept: List[Step] = []
+    for step in steps:
+        is_tick = step.leave_ticks()
+        if not is_tick or step.made or step.ended or step.starts or matters(step):
+            if is_tick:
+                kept[-1].closed = True
+            kept.append(step)
+        else:
+            kept[-1].closed |= step.closed
+    return kept
+
 
 def settle(steps: Sequence[Step]) -> None:
     """Chooses all times. Raises Conflict, where there are none."""
@@ -201,7 +232,7 @@ def settle(steps: Sequence[Step]) -> None:
 def _manners_for(ticks: Set[Tick]) -> Sequence[Manner]:
     """The manners that are tried where there are these ticks."""
     if not ticks:
-        return [manner for manner in MANNERS if manner.exact or manner.tick != 1]
+        return MANNERS[0], MANNERS[_ROUND]
     if any(tick.further for tick in ticks):
         return OF_SEVERAL
     is_far = any(tick.delay >= MILLISECOND for tick in ticks)
@@ -278,7 +309,7 @@ class _Settling:
         self.moved = 0
         #: where ticks of several Cooperators wait: by which step each entry has run, or has ended
         self._over: Dict[Entry, int] = {}
-        if any(entry.tick is not None and entry.tick.further for step in steps for entry in step.made):
+        if any(entry.is_further for step in steps for entry in step.made):
             for place, step in enumerate(steps):
                 self._over.update((entry, place) for entry, _ in step.ended)
                 if step.entry is not None:

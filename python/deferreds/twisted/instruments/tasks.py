@@ -3,13 +3,16 @@
 The first Cooperator of a run that gets a task has no name in its script, and each further one has, where the clock of the run schedules
 its ticks. What a scheduler does is known once it has scheduled the first. Until then the first task is tried: if no tick reaches the
 clock, the Cooperator is recorded as the Python that it is made of.
+
+On a real reactor it is also noted what a further Cooperator does by itself (`inner`). If no script has it by name, the run is told without it
+(`deferreds.twisted.recording.unnamed`).
 """
 
 from __future__ import annotations
 
 import functools
 import sys
-from typing import Any, Callable, Dict, Iterator, List, NamedTuple, Optional
+from typing import Any, Callable, Dict, Iterator, List, NamedTuple, Optional, Tuple
 
 from twisted.internet import task
 from twisted.internet.defer import AlreadyCalledError, Deferred
@@ -18,6 +21,7 @@ from .. import grammar
 from ..profile import Entry
 from ..telling import Action, Line, Observer, Record, Thing, Time, observer_of
 from .clock import Own, own_calls, tried
+from .inner import Inner
 from .pace import is_real
 
 _Task = task.CooperativeTask
@@ -35,6 +39,9 @@ _tick = _Cooperator._tick
 _remove = _Cooperator._removeTask
 _stop_all = _Cooperator.stop
 _start_all = _Cooperator.start
+
+#: the kind of what a script can't say of a further Cooperator, by name
+FURTHER = "further"
 
 
 class Tick(NamedTuple):
@@ -70,6 +77,16 @@ class Cooperating:
         #: where it was made, and after how many seconds its ticks are due
         self.made_at: Any = None
         self.delay = 0.0
+
+    @property
+    def is_further(self) -> bool:
+        """Whether it isn't the first one of the run."""
+        return self.made_at is not None
+
+    @property
+    def kind(self) -> str:
+        """The kind of its problems."""
+        return FURTHER if self.is_further else "cooperator"
 
     def next_is(self, stepped: Any) -> bool:
         """Whether it is the turn of the one that is stepped, where nobody is skipped."""
@@ -113,6 +130,7 @@ class _Word(Thing):
 
     def __init__(self, cooperating: Cooperating, unnamed: str, named: str) -> None:
         super().__init__(unnamed)
+        self.is_further = cooperating.is_further
         self._cooperating = cooperating
         self._named = named
 
@@ -129,6 +147,9 @@ class Cooperators:
     def __init__(self) -> None:
         self.first: Optional[Cooperating] = None
         self.further: List[Cooperating] = []
+        #: what further ones do by themselves, and where Twisted did with one what an entry of the profile names
+        self.inner = Inner()
+        self.quirks: List[Tuple[int, Entry]] = []
 
     def all(self) -> List[Cooperating]:
         """All of them."""
@@ -140,12 +161,16 @@ class Cooperators:
 
 
 class Known:
-    """A task that is recorded: its name, the bodies of its steps, and the Deferred that its step gave last."""
+    """A task that is recorded: its name, the bodies of its steps, its Cooperator, and the Deferred that its step gave last."""
 
-    def __init__(self, thing: Thing, steps: Any) -> None:
+    def __init__(self, thing: Thing, steps: Any, cooperating: Cooperating) -> None:
         self.thing = thing
+        thing.is_further = cooperating.is_further
         self.steps = steps
+        self.cooperating = cooperating
         self.held_by: Optional[Deferred[Any]] = None
+        #: the bodies of the pair of the Deferred that holds it, where these are noted
+        self.pair: Any = None
 
 
 def _known(watcher: Optional[Observer], cooperative: Any) -> Optional[Known]:
@@ -177,6 +202,35 @@ def know(watcher: Observer, cooperating: Cooperating) -> None:
     cooperating.cooperator._dv_cooperating = (watcher, cooperating)
 
 
+# what a further Cooperator does by itself
+
+
+def _inner(watcher: Observer, cooperating: Cooperating) -> Optional[Inner]:
+    """Where it is noted what this Cooperator does by itself, if that is noted."""
+    return _cooperators(watcher).inner if cooperating.is_further and watcher.pace is not None else None
+
+
+def _act(watcher: Observer, cooperating: Cooperating, action: Action, call: Callable[..., Any], *args: Any) -> Any:
+    """Performs a call of the program's on a Cooperator, or on a task of one."""
+    inner = _inner(watcher, cooperating)
+    return watcher.act(action, call, *args) if inner is None else inner.act(watcher, action, call, *args)
+
+
+def _in_pair(watcher: Observer, known: Known, side: int, call: Callable[..., Any], *args: Any) -> Any:
+    """Performs what a side of the pair does by which a Deferred holds a task."""
+    pair, known.pair = known.pair, None
+    if pair is None:
+        return call(*args)
+    return _cooperators(watcher).inner.in_pair(watcher, pair[side], call, *args)
+
+
+def _quirk(watcher: Observer, cooperating: Cooperating, entry: Entry) -> None:
+    """Twisted does with a Cooperator here what an entry of the profile names."""
+    watcher.quirk(entry)
+    if cooperating.is_further:
+        _cooperators(watcher).quirks.append((len(watcher.parts), entry))
+
+
 # making
 
 
@@ -201,10 +255,10 @@ def _instrumented_init(self: Any, iterator: Iterator[Any], cooperator: Any) -> N
     if cooperating is None:
         _try(watcher, self, iterator, cooperator)
         return
-    known = Known(watcher.thing("task"), watcher.new_body("steps"))
+    known = Known(watcher.thing("task"), watcher.new_body("steps"), cooperating)
     action = Action(["cooperate", known.thing, known.steps])
     _bind(watcher, cooperating, self, iterator, known, action)
-    watcher.act(action, _tell_made, watcher, cooperating, known, self, iterator)
+    _act(watcher, cooperating, action, _tell_made, watcher, cooperating, known, self, iterator)
 
 
 def _bind(
@@ -244,14 +298,17 @@ def _begun_stopped(watcher: Observer, cooperator: Any) -> Optional[Cooperating]:
     if not _has_room(watcher):
         return None
     cooperating = _named(watcher, cooperator, _made_at(watcher, cooperator))
-    watcher.act(Action(["stopCooperator", cooperating.thing]), watcher.tell, *_stop_line(cooperating))
+    _cooperators(watcher).inner.is_unclear |= watcher.pace is None
+    _act(watcher, cooperating, Action(["stopCooperator", cooperating.thing]), watcher.tell, *_stop_line(cooperating))
     return cooperating
 
 
 def _named(watcher: Observer, cooperator: Any, made_at: Any) -> Cooperating:
     """A Cooperator gets a name."""
     cooperating = Cooperating(cooperator)
-    cooperating.name_it(watcher.thing("cooperator", made_at))
+    thing = watcher.thing("cooperator", made_at)
+    thing.is_further = True
+    cooperating.name_it(thing)
     cooperating.made_at = made_at
     know(watcher, cooperating)
     return cooperating
@@ -315,10 +372,10 @@ class _Trying:
         else:
             cooperating.become(self._cooperator)
             self._cooperator._dv_cooperating = (watcher, cooperating)
-        known = Known(watcher.thing("task", self._spot), self._steps)
+        known = Known(watcher.thing("task", self._spot), self._steps, cooperating)
         self.action[1] = known.thing
         _bind(watcher, cooperating, self._cooperative, self._iterator, known, self.action)
-        return watcher.act(self.action, _tell_tried, watcher, cooperating.task_line(known.thing), schedule)
+        return _act(watcher, cooperating, self.action, _tell_tried, watcher, cooperating.task_line(known.thing), schedule)
 
 
 def _tell_tried(watcher: Observer, line: Line, schedule: Callable[[], Any]) -> Any:
@@ -337,7 +394,7 @@ def _own_tick(watcher: Observer, call: Callable[..., Any]) -> Optional[Own]:
     if cooperating is None:
         return None
     cooperating.seen = True
-    further = cooperating.made_at is not None
+    further = cooperating.is_further
     line = (cooperating.word("later tick", " "),)
     return Own(line, lambda pace, delay: pace.tick(delay, further), cooperating.delays.append)
 
@@ -350,7 +407,7 @@ def _instrumented_reschedule(self: Any) -> None:
         _reschedule(self)
         return
     if cooperating.in_tick and sys._getframe(1).f_code is not _tick.__code__:
-        watcher.quirk(Entry.TICK_SCHEDULED_IN_A_TICK)
+        _quirk(watcher, cooperating, Entry.TICK_SCHEDULED_IN_A_TICK)
     cooperating.seen = False
     _reschedule(self)
     if not cooperating.seen:
@@ -361,11 +418,9 @@ def _tell_tick_alone(watcher: Observer, cooperating: Cooperating) -> None:
     """A tick was scheduled by something that isn't the clock of the run: it is due 1 from now."""
     cooperating.alone = True
     if watcher.clock is not None:
-        watcher.problem("a Cooperator beside a Clock that doesn't schedule it", "cooperator")
+        watcher.problem("a Cooperator beside a Clock that doesn't schedule it", cooperating.kind)
     if cooperating.cooperator._delayedCall is None:
-        watcher.problem(
-            "a scheduler of a Cooperator that gives nothing to cancel", "cooperator"
-        )
+        watcher.problem("a scheduler of a Cooperator that gives nothing to cancel", cooperating.kind)
     cooperating.delays.append(Time(1))
     watcher.tell(cooperating.word("later tick", " "), Time(cooperating.time + 1))
 
@@ -377,13 +432,13 @@ def _instrumented_tick(self: Any) -> None:
         _tick(self)
     elif watcher.quiet:
         if cooperating.alone:
-            watcher.problem("a tick inside Twisted", "cooperator")
+            watcher.problem("a tick inside Twisted", cooperating.kind)
         _run_tick(watcher, cooperating)
     else:
         if watcher.frame is not watcher.top:
-            watcher.problem("a tick inside a body", "cooperator")
+            watcher.problem("a tick inside a body", cooperating.kind)
         if not cooperating.alone:
-            watcher.problem("a tick that the program itself runs", "cooperator")
+            watcher.problem("a tick that the program itself runs", cooperating.kind)
         watcher.act(Action(["advance", Time(1)]), _run_tick, watcher, cooperating)
 
 
@@ -393,11 +448,15 @@ def _run_tick(watcher: Observer, cooperating: Cooperating) -> None:
         watcher.tell("advance ", Time(cooperating.time))
     watcher.tell(cooperating.word("tick"))
     cooperating.steps, cooperating.in_tick = 0, True
+    event, inner = watcher.happening(), _inner(watcher, cooperating)
     try:
-        _tick(cooperating.cooperator)
+        if event is None or inner is None:
+            _tick(cooperating.cooperator)
+        else:
+            inner.within(event, _tick, cooperating.cooperator)
     finally:
         left = bool(cooperating.cooperator._tasks)
-        cooperating.ticks.append(Tick(cooperating.steps, left, watcher.happening()))
+        cooperating.ticks.append(Tick(cooperating.steps, left, event))
         cooperating.in_tick = False
 
 
@@ -406,7 +465,7 @@ def _instrumented_remove(self: Any, cooperative: Any) -> None:
     cooperating = _cooperating(watcher, self)
     if watcher is not None and cooperating is not None:
         if cooperative not in self._tasks:
-            watcher.quirk(Entry.TASK_ENDED_TWICE)
+            _quirk(watcher, cooperating, Entry.TASK_ENDED_TWICE)
         elif self._tasks.index(cooperative) < cooperating.place:
             cooperating.place -= 1
     _remove(self, cooperative)
@@ -426,10 +485,13 @@ class _Asked:
 
     def __next__(self) -> Any:
         watcher = self.watcher
-        body = watcher.begin_step(self.known.steps)
+        cooperating = self.known.cooperating
+        body, inner = watcher.begin_step(self.known.steps), _inner(watcher, cooperating)
+        if inner is not None:
+            inner.note(watcher, body)
         result = watcher.perform(body, "step", None, self._ask)
         if self.ended:
-            watcher.end_steps(self.known.steps, body)
+            watcher.end_steps(self.known.steps, body, cooperating.kind)
             raise StopIteration
         self.known.held_by = result if isinstance(result, Deferred) else None
         return result
@@ -451,7 +513,7 @@ def _instrumented_work(self: Any) -> None:
         return
     cooperating.steps += 1
     if not cooperating.next_is(self):
-        watcher.quirk(Entry.SKIPPED_TURN)
+        _quirk(watcher, cooperating, Entry.SKIPPED_TURN)
     watcher.tell("step ", known.thing)
     iterator = self._iterator
     self._iterator = _Asked(watcher, known, iterator)
@@ -468,19 +530,36 @@ def _instrumented_complete(self: Any, state: Any, result: Any) -> None:
         result = result.iterator
     if watcher is None or known is None:
         _complete(self, state, result)
-        return
+    elif sys._getframe(1).f_code.co_name == _FAILS_LATER:
+        _in_pair(watcher, known, 1, _tell_ended, watcher, known, self, state, result)
+    else:
+        _tell_ended(watcher, known, self, state, result)
+
+
+#: the name of Twisted's own side by which a task fails that a Deferred holds
+_FAILS_LATER = "failLater"
+
+
+def _tell_ended(watcher: Observer, known: Known, cooperative: Any, state: Any, result: Any) -> None:
     if isinstance(state, task.TaskDone):
         watcher.texts.bind(result, known.thing)  # other tasks may have the same iterator
-    cooperating = _cooperating(watcher, self._cooperator)
-    if self._completionState is not None:
-        watcher.quirk(Entry.TASK_ENDED_TWICE)
-    elif cooperating is not None:
+    cooperating = known.cooperating
+    inner = _inner(watcher, cooperating)
+    if cooperative._completionState is not None:
+        _quirk(watcher, cooperating, Entry.TASK_ENDED_TWICE)
+    elif _cooperating(watcher, cooperative._cooperator) is not None:
         cooperating.live -= 1
     watcher.tell("end ", known.thing, " ", watcher.texts.outcome(result))
+    if inner is not None:
+        for deferred in cooperative._deferreds:
+            inner.note_firing(watcher, deferred, result)
     try:
-        _complete(self, state, result)
-    except AlreadyCalledError:
-        watcher.quirk(Entry.REFUSED_WHEN_DONE)
+        _complete(cooperative, state, result)
+    except BaseException as error:
+        if inner is not None:
+            inner.is_unclear = True  # it isn't known which were fired
+        if isinstance(error, AlreadyCalledError):
+            _quirk(watcher, cooperating, Entry.REFUSED_WHEN_DONE)
         raise
 
 
@@ -495,7 +574,7 @@ def _instrumented_pause(self: Any) -> None:
     elif watcher.quiet:
         _hold(watcher, self, known)
     else:
-        watcher.act(Action(["pauseTask", known.thing]), _tell_paused, watcher, self, known)
+        _act(watcher, known.cooperating, Action(["pauseTask", known.thing]), _tell_paused, watcher, self, known)
 
 
 def _tell_paused(watcher: Observer, cooperative: Any, known: Known) -> None:
@@ -507,10 +586,16 @@ def _tell_paused(watcher: Observer, cooperative: Any, known: Known) -> None:
 def _hold(watcher: Observer, cooperative: Any, known: Known) -> None:
     """Twisted pauses a task whose step gave a Deferred."""
     if cooperative._completionState is not None:
-        watcher.quirk(Entry.TASK_ENDED_TWICE)
+        _quirk(watcher, known.cooperating, Entry.TASK_ENDED_TWICE)
     elif known.held_by is not None:
-        watcher.tell("hold ", known.thing, " ", watcher.record(known.held_by))
+        record = watcher.record(known.held_by)
+        watcher.tell("hold ", known.thing, " ", record)
         known.held_by = None
+        inner = _inner(watcher, known.cooperating)
+        if inner is not None:
+            inner.is_unclear |= known.pair is not None  # two Deferreds hold it
+            known.pair = watcher.new_body("callback"), watcher.new_body("callback")
+            inner.note(watcher, Action(["addCallbacks", record, *known.pair]))
     _pause(cooperative)
 
 
@@ -521,12 +606,12 @@ def _instrumented_resume(self: Any) -> None:
         _resume(self)
     elif watcher.quiet:
         if self._completionState is None:
-            _tell_resumed(watcher, self, known)
+            _in_pair(watcher, known, 0, _tell_resumed, watcher, self, known)
         else:
-            watcher.quirk(Entry.HOLD_ON_AN_ENDED_TASK)
-            _resume(self)
+            _quirk(watcher, known.cooperating, Entry.HOLD_ON_AN_ENDED_TASK)
+            _in_pair(watcher, known, 0, _resume, self)
     else:
-        watcher.act(Action(["resumeTask", known.thing]), _tell_resumed, watcher, self, known)
+        _act(watcher, known.cooperating, Action(["resumeTask", known.thing]), _tell_resumed, watcher, self, known)
 
 
 def _tell_resumed(watcher: Observer, cooperative: Any, known: Known) -> None:
@@ -541,7 +626,7 @@ def _instrumented_stop(self: Any) -> None:
     if watcher is None or known is None or watcher.quiet:
         _stop(self)
     else:
-        watcher.act(Action(["stopTask", known.thing]), _stop, self)
+        _act(watcher, known.cooperating, Action(["stopTask", known.thing]), _stop, self)
 
 
 def _instrumented_when_done(self: Any) -> Any:
@@ -549,21 +634,23 @@ def _instrumented_when_done(self: Any) -> Any:
     known = _known(watcher, self)
     if watcher is None or known is None or watcher.quiet:
         return _when_done(self)
-    return _act_when_done(watcher, self, known.thing)
+    return _act_when_done(watcher, self, known)
 
 
-def _act_when_done(watcher: Observer, cooperative: Any, thing: Thing) -> Any:
-    action = Action(["whenDone", None, thing])
+def _act_when_done(watcher: Observer, cooperative: Any, known: Known) -> Any:
+    action, inner = Action(["whenDone", None, known.thing]), _inner(watcher, known.cooperating)
 
     def made(deferred: Deferred[Any], record: Record) -> None:
         action[1] = record
-        watcher.tell("whendone ", thing, " ", record)
+        watcher.tell("whendone ", known.thing, " ", record)
+        if inner is not None and cooperative._completionState is not None:
+            inner.note_firing(watcher, deferred, cooperative._completionResult)
 
     def ask() -> Any:
         watcher.expect(made)
         return _when_done(cooperative)
 
-    return watcher.act(action, ask)
+    return _act(watcher, known.cooperating, action, ask)
 
 
 # actions on whole Cooperators
@@ -582,26 +669,27 @@ def _instrumented_stop_all(self: Any) -> None:
         _stop_all(self)
         return
     if watcher.quiet:
-        watcher.problem("Cooperator.stop inside Twisted", "cooperator")
+        watcher.problem("Cooperator.stop inside Twisted", cooperating.kind)
         _stop_all(self)
         return
     if cooperating.thing is None:
         cooperating.name_it(watcher.thing("cooperator", _made_at(watcher, self)))
-    watcher.act(Action(["stopCooperator", cooperating.thing]), _tell_stopped, watcher, cooperating)
+    _act(watcher, cooperating, Action(["stopCooperator", cooperating.thing]), _tell_stopped, watcher, cooperating)
 
 
 def _tell_stopped(watcher: Observer, cooperating: Cooperating) -> None:
     watcher.tell(*_stop_line(cooperating))
     if len(cooperating.cooperator._tasks) > 1:
-        watcher.quirk(Entry.TASK_LEFT_BY_STOP)
+        _quirk(watcher, cooperating, Entry.TASK_LEFT_BY_STOP)
     _stop_all(cooperating.cooperator)
 
 
 def _instrumented_start_all(self: Any) -> None:
     if self._stopped or not self._started:
         watcher = observer_of("cooperator")
-        if watcher is not None and not watcher.quiet and _cooperating(watcher, self) is not None:
-            watcher.problem("Cooperator.start", "cooperator")
+        cooperating = _cooperating(watcher, self)
+        if watcher is not None and not watcher.quiet and cooperating is not None:
+            watcher.problem("Cooperator.start", cooperating.kind)
     _start_all(self)
 
 

@@ -142,6 +142,8 @@ class Keeping:
     def _tell(self, said: Said, name: str, agreed: Agreement) -> None:
         for entry in sorted({entry.value for _, entry in said.quirks}):
             self.messages.say(f"Twisted does here what docs/TWISTED.md says of {entry}")
+        if said.unnamed:
+            self.messages.say(f"further Cooperators are recorded as events: {said.unnamed}")
         if said.tick:
             self.messages.say(f"1 tick = {said.tick}")
         if said.elsewhere:

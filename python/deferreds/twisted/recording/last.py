@@ -16,6 +16,7 @@ from typing import Any, Callable, List, Optional
 from twisted.internet.defer import Deferred
 
 from ..instruments.deferreds import result_of, runs_callbacks, take_over, take_over_canceller
+from ..instruments.tasks import FURTHER
 from ..telling import Action, Observer, Record, watched
 from ..texts import NULL, Outcome
 from .bodies import Body, Run, Steps, Unsayable
@@ -74,7 +75,7 @@ class LastRecorder(Recorder):
         if before is not None:
             self.earlier = before.earlier + len(before.events)
             self.texts = before.texts
-            self.problems = list(dict.fromkeys(before.problems))
+            self.problems = [problem for problem in dict.fromkeys(before.problems) if problem.kind != FURTHER]
             self.texts.forget_kept()
             self.texts.ask_by(self.ask)
 
@@ -280,7 +281,7 @@ class LastRecorder(Recorder):
         """What is recorded here, after what stood. `ended`: how many events have ended, as for `Said`."""
         whole = copy.copy(self)
         shift = len(self._stood_parts)
-        whole.preceding = len(self._stood_events)
+        whole.preceding, whole.preceding_parts = len(self._stood_events), shift
         whole.events = self._stood_events + self.events
         whole.begins = self._stood_begins + [at + shift for at in self.begins]
         whole.parts = [*self._stood_parts, *self.parts]

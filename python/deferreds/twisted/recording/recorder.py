@@ -106,8 +106,8 @@ class Recorder(Observer):
     texts: Values
 
     stack_room = _ROOM
-    #: how many events come before those by which the runs of bodies count
-    preceding = 0
+    #: how many events come before those by which the runs of bodies count, and how many parts of lines before those that are noted so
+    preceding = preceding_parts = 0
     #: what watches where the text of an object is asked for, once one was
     _aside: Optional[Aside] = None
 
@@ -546,11 +546,11 @@ class Recorder(Observer):
         steps.bodies.append(body)
         return body
 
-    def end_steps(self, steps: Any, body: Any) -> None:
-        """A task has ended, in a step that has no body."""
+    def end_steps(self, steps: Any, body: Any, kind: str) -> None:
+        """A task has ended, in a step that has no body. `kind`: that of the problem, where this is one."""
         steps.bodies.remove(body)
         if body.runs[0].actions:
-            self.problem("a task acts in the step in which it ends", "cooperator")
+            self.problem("a task acts in the step in which it ends", kind)
 
     def begin_inline(self, body: Any) -> bool:
         """The program is about to begin an inline body. Whether it does so in another one, so deep that a script may have to declare it."""

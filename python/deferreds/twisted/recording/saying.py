@@ -14,7 +14,8 @@ from typing import Any, Dict, Iterator, List, Optional, Sequence, Set, Tuple, Un
 from ...language import LANGUAGE
 from .. import grammar
 from ..classes import is_built_in
-from ..instruments.tasks import Cooperating, Cooperators
+from ..instruments.settling import Conflict
+from ..instruments.tasks import FURTHER, Cooperating, Cooperators
 from ..profile import Entry
 from ..script import nodes
 from ..telling import Action, Advance, Begun, Ended, Failed, Part, Record, Thing, Time
@@ -26,6 +27,7 @@ from .outcomes import outcomes_of
 from .places import FreeNames, name_of_spot
 from .recorder import Problem, Recorder
 from .ticking import Uneven, changes_of, places_of
+from .unnamed import without_further
 from .whereabouts import Acted, actions_of, whereabouts_of
 
 _FINEST = 10**9
@@ -53,7 +55,11 @@ class Said:
         """`ended`: how many events of the program have ended; those after them aren't part of the script. None: all have."""
         self._recorder = recorder
         self._scale = 1
-        self.problems: List[Problem] = list(recorder.problems)
+        self.problems: List[Problem] = []
+        #: why further Cooperators aren't in the script, where it is of a run that has some
+        self.unnamed = ""
+        #: by how many events have ended of those by which runs count, how many of the recorded ones; None: as many
+        self._counts: Optional[Sequence[int]] = None
         #: those of the problems that are of the size of the whole run alone: the script is of its beginning
         self.too_large: List[Problem] = []
         self._ended = len(recorder.events) if ended is None else min(ended, len(recorder.events))
@@ -61,8 +67,12 @@ class Said:
         self._tick_units: Dict[int, int] = {}
         #: the Cooperators that are named in the script, by the numbers of Python for their names
         self._used: Set[int] = set()
-        self._settle()
+        conflict = self._settle()
         self._change_units()
+        if self._leave_unnamed(conflict):
+            conflict = self._settle()
+            self._change_units()
+        self._note_problems(conflict)
         #: how many events the script has
         self.events = self._count_events()
         self._alike = Alike(self._runs)
@@ -147,26 +157,56 @@ class Said:
 
     # numbers and times
 
-    def _settle(self) -> None:
-        """Has the times of a real reactor be set, and leaves out the advances that aren't told."""
+    def _settle(self) -> Optional[Conflict]:
+        """Has the times of a real reactor be set, and leaves out the advances that aren't told. Gives why there are no times, if so."""
         recorder = self._recorder
-        conflict = None if recorder.pace is None else recorder.pace.settle()
-        if conflict is not None:
-            self._problem(conflict.reason, conflict.kind, conflict.place)
+        conflict: Optional[Conflict] = None if recorder.pace is None else recorder.pace.settle()
         told = self._told = [not isinstance(action, Advance) or action.is_told for action in recorder.events]
         #: the events of the whole run that are recorded, before which parts of lines each begins, and its place among the recorder's
         self.actions = list(compress(recorder.events, told))
         self._begins = list(compress(recorder.begins, told))
         self._places = list(compress(count(), told))
+        return conflict
+
+    def _leave_unnamed(self, conflict: Optional[Conflict]) -> bool:
+        """Leaves out further Cooperators, if no script has them by name. Gives whether it has."""
+        further = [one for one in self._cooperators() if one.is_further]
+        reasons = [problem.reason for problem in self._recorder.problems if problem.kind == FURTHER]
+        reasons += [] if conflict is None else [conflict.reason]
+        reasons += filter(None, map(self._lack, further))
+        told = without_further(self._recorder) if further and reasons else None
+        if told is None:
+            return False
+        self.unnamed = reasons[0]
+        self._recorder, self._counts = told
+        return True
+
+    def _lack(self, cooperating: Cooperating) -> str:
+        """Why a script can't say the ticks of a Cooperator, or nothing, if it can."""
+        if id(cooperating) not in self._tick_units:
+            return "ticks of different numbers of steps"
+        delays = {exact(delay.seconds) for delay in cooperating.delays}
+        return "ticks that are due after different times, or at once" if len(delays) > 1 or 0 in delays else ""
+
+    def _note_problems(self, conflict: Optional[Conflict]) -> None:
+        """Notes what a script can't say of what was recorded."""
+        for problem in self._recorder.problems:
+            self.problems.append(problem._replace(kind="cooperator") if problem.kind == FURTHER else problem)
+        if conflict is not None:
+            self._problem(conflict.reason, conflict.kind, conflict.place)
+
+    def _counted(self, events: int) -> int:
+        """How many events are recorded, after so many of those by which runs count."""
+        return events if self._counts is None else self._counts[events]
 
     def _count_events(self) -> int:
         """How many of the recorded events have ended.
 
         What an advance that isn't recorded runs is run by the recorded one before it, which ends with it.
         """
-        while self._ended < len(self._told) and not self._told[self._ended]:
+        while self._counted(self._ended) < len(self._told) and not self._told[self._counted(self._ended)]:
             self._ended -= 1
-        return bisect_left(self._places, self._ended)
+        return bisect_left(self._places, self._counted(self._ended))
 
     def _cooperators(self) -> List[Cooperating]:
         """The Cooperators that are recorded as such."""
@@ -392,7 +432,7 @@ class Said:
     def _event(self, action: Action, bodies: Sequence[Body]) -> List[Any]:
         """An event, in which these bodies lie. If they do so too deep for a script, some are declared."""
         if not bodies:
-            return self._action(action)
+            return self._helped(action)
         words = self._with_bodies(action, bodies, False)
         if self._declared.height(words) > MOST_OF_EVENT:
             words = self._with_bodies(action, bodies, True)
@@ -408,7 +448,7 @@ class Said:
         for body in reversed(bodies):
             said = self._said[id(body)] = self._say_body(body)
             self._declared.measure(said)
-        return self._action(action)
+        return self._helped(action)
 
     def _action(self, said: Action) -> List[Any]:
         words = self._words(said)
@@ -528,7 +568,7 @@ class Said:
 
     def _runs(self, body: Body) -> Sequence[Run]:
         """The runs of a body, but for those of an event that isn't part of the script."""
-        if self._ended == len(self._recorder.events):
+        if self._counted(self._ended) == len(self._recorder.events):
             return body.runs
         return [run for run in body.runs if run.began + self._recorder.preceding <= self._ended]
 
@@ -544,14 +584,11 @@ class Said:
             script["cooperators"] = named
 
     def _cooperator(self, cooperating: Cooperating) -> Dict[str, int]:
-        units = self._tick_units.get(id(cooperating))
-        if units is None:
-            raise self._cannot("ticks of different numbers of steps", "cooperator")
-        delays = {exact(delay.seconds) for delay in cooperating.delays} or {Fraction(1)}
-        delay = int(delays.pop() * self._scale)
-        if delays or delay < 1:
-            raise self._cannot("ticks that are due after different times, or at once", "cooperator")
-        return {"units": units, "delay": delay}
+        lack = self._lack(cooperating)
+        if lack:
+            raise self._cannot(lack, "cooperator")
+        delay = exact(cooperating.delays[0].seconds) if cooperating.delays else Fraction(1)
+        return {"units": self._tick_units[id(cooperating)], "delay": int(delay * self._scale)}
 
     # limits of scripts
 
