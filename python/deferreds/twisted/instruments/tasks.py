@@ -4,8 +4,8 @@ The first Cooperator of a run that gets a task has no name in its script, and ea
 its ticks. What a scheduler does is known once it has scheduled the first. Until then the first task is tried: if no tick reaches the
 clock, the Cooperator is recorded as the Python that it is made of.
 
-On a real reactor it is also noted what a further Cooperator does by itself (`inner`). If no script has it by name, the run is told without it
-(`deferreds.twisted.recording.unnamed`).
+On a real reactor it also notes what a further Cooperator does by itself (`inner`). If no script has it by name, the run is recorded without
+it (`deferreds.twisted.recording.unnamed`).
 """
 
 from __future__ import annotations

@@ -1,8 +1,8 @@
-"""Tells a run on a real reactor without its further Cooperators, where no script has them by name.
+"""Records a run on a real reactor without its further Cooperators, if no script has them by name.
 
-What a step of a task has done is then an event, before which time has gone on to that, as where something comes from a socket. So is what
-the Cooperator has done by itself: it has added a pair to what a step gave, and fired the Deferreds of `whenDone`. The lines of Cooperators
-and tasks are left out.
+What a step of a task has done is an event then, before which time advances to it, as with input from a socket. So is what the Cooperator
+has done by itself: it has added a pair to what a step gave, and fired the Deferreds of `whenDone`. The lines of further Cooperators and of
+their tasks are left out.
 """
 
 from __future__ import annotations
@@ -31,11 +31,11 @@ class Unnamed(NamedTuple):
 
 
 class _CannotTell(Exception):
-    """What was done can't be told without Cooperators."""
+    """What was done can't be recorded without Cooperators."""
 
 
 def without_further(recorder: Recorder) -> Optional[Unnamed]:
-    """The run without its further Cooperators. If that can't be told, None: nothing has changed then."""
+    """The run without its further Cooperators. If that can't be recorded, None: nothing has changed then."""
     known = recorder.cooperator
     if recorder.pace is None or not isinstance(known, Cooperators) or known.inner.is_unclear:
         return None
@@ -72,17 +72,17 @@ def _without(recorder: Recorder, known: Cooperators) -> Unnamed:
 
 
 class _Placing:
-    """Tells actions without Cooperators, and before which parts of lines they begin."""
+    """The actions that are recorded without Cooperators, and before which parts of lines they begin."""
 
     def __init__(self, recorder: Recorder) -> None:
         self._parts = recorder.parts
         self._preceding = recorder.preceding_parts
         self._places = {id(part): place for place, part in enumerate(self._parts) if type(part) is Action}
-        #: whether the failures of actions are caught that are told otherwise
+        #: actions whose failures are caught in the new recording and weren't before, or the other way round, each with whether they are
         self.caught: List[Tuple[Action, bool]] = []
 
     def told(self, action: Action, begin: int) -> Iterator[Tuple[Action, int]]:
-        """What is told in the place of an action that begins there."""
+        """What is recorded in place of an action that begins there."""
         if action.inner is None or isinstance(action, Advance):
             yield action, begin
         else:
@@ -96,7 +96,7 @@ class _Placing:
                 yield what, self._begin(what, place + self._preceding)
 
     def told_in(self, run: Any) -> Iterator[Action]:
-        """What is told in the place of the actions of a body."""
+        """What is recorded in place of the actions of a body."""
         last: Action = run.noted[-1]
         if last.inner is not None and last.raised is not None and not last.caught and run.kind != "step":
             raise _CannotTell  # the body has ended by the failure
@@ -112,7 +112,7 @@ class _Placing:
             yield from self.told(action, self._places[id(action)])
 
     def _begin(self, action: Action, place: int) -> int:
-        """Where the line begins that tells an action which was noted there."""
+        """Where the line begins of an action that was noted there."""
         if action[0] == "addCallbacks":
             return place
         for at in range(place, len(self._parts) - 1):
