@@ -14,6 +14,7 @@ frame_of (large.Maybe purpose) = frame.Maybe purpose
 frame_of (large.Add d pair) = frame.Add d pair
 frame_of (large.Give performed) = frame.Give performed
 frame_of (large.Notify d task) = frame.Notify d task
+frame_of (large.Tick of left) = frame.Tick of left
 frame_of (large.Inline inlining) = frame.Inline inlining
 
 -- the rest of a body under those kinds, with the frames below it; there is one for each
@@ -36,7 +37,6 @@ frames_of (kind.Canceller d ∷ kinds) rests larges = frame.Canceller d ∷ fram
 frames_of (kind.Cancel d ∷ kinds) rests larges = frame.Cancel d ∷ frames_of kinds rests larges
 frames_of (kind.Stepped task ∷ kinds) rests larges = frame.Stepped task ∷ frames_of kinds rests larges
 frames_of (kind.Halt task ∷ kinds) rests larges = frame.Halt task ∷ frames_of kinds rests larges
-frames_of (kind.Tick of left ∷ kinds) rests larges = frame.Tick of left ∷ frames_of kinds rests larges
 frames_of (kind.Tell ∷ kinds) rests larges = frame.Tell ∷ frames_of kinds rests larges
 frames_of (kind.Due ∷ kinds) rests larges = frame.Due ∷ frames_of kinds rests larges
 frames_of (kind.Large ∷ kinds) rests larges = large_over larges (λ larges. frames_of kinds rests larges)
@@ -52,7 +52,6 @@ AreThere (kind.Canceller d ∷ kinds) rests larges = AreThere kinds rests larges
 AreThere (kind.Cancel d ∷ kinds) rests larges = AreThere kinds rests larges
 AreThere (kind.Stepped task ∷ kinds) rests larges = AreThere kinds rests larges
 AreThere (kind.Halt task ∷ kinds) rests larges = AreThere kinds rests larges
-AreThere (kind.Tick of left ∷ kinds) rests larges = AreThere kinds rests larges
 AreThere (kind.Tell ∷ kinds) rests larges = AreThere kinds rests larges
 AreThere (kind.Due ∷ kinds) rests larges = AreThere kinds rests larges
 AreThere (kind.Large ∷ kinds) rests [] = ⊥

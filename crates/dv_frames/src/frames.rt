@@ -23,7 +23,6 @@ enum Kind {
     Cancel(DeferredId),
     Stepped(TaskId),
     Halt(TaskId),
-    Tick(CooperatorId, u32),
     Tell,
     Due,
     /// What is on top of the large ones.
@@ -37,6 +36,7 @@ enum Large<'s> {
     Add(DeferredId, Pair<'s>),
     Give(Performed<'s>),
     Notify(DeferredId, TaskId),
+    Tick(CooperatorId, u32),
     Inline(Inlining<'s>),
 }
 
@@ -110,7 +110,6 @@ impl<'s> Frames<'s> {
             Kind::Cancel(id) => Some(Frame::Cancel(id)),
             Kind::Stepped(task) => Some(Frame::Stepped(task)),
             Kind::Halt(task) => Some(Frame::Halt(task)),
-            Kind::Tick(of, left) => Some(Frame::Tick(of, left)),
             Kind::Tell => Some(Frame::Tell),
             Kind::Due => Some(Frame::Due),
             Kind::Large => match self.larges.pop() {
@@ -149,7 +148,7 @@ impl<'s> Frames<'s> {
             Frame::Notify(id, task) => self.push_large(Large::Notify(id, task)),
             Frame::Stepped(task) => self.kinds.push(Kind::Stepped(task)),
             Frame::Halt(task) => self.kinds.push(Kind::Halt(task)),
-            Frame::Tick(of, left) => self.kinds.push(Kind::Tick(of, left)),
+            Frame::Tick(of, left) => self.push_large(Large::Tick(of, left)),
             Frame::Tell => self.kinds.push(Kind::Tell),
             Frame::Due => self.kinds.push(Kind::Due),
             Frame::Inline(inlining) => self.push_large(Large::Inline(inlining)),
@@ -196,6 +195,7 @@ fn frame_of(large: Large<'_>) -> Frame<'_>
         Large::Add(id, pair) => Frame::Add(id, pair),
         Large::Give(performed) => Frame::Give(performed),
         Large::Notify(id, task) => Frame::Notify(id, task),
+        Large::Tick(of, left) => Frame::Tick(of, left),
         Large::Inline(inlining) => Frame::Inline(inlining),
     }
 }
