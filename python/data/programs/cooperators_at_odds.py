@@ -25,9 +25,9 @@ def held():
     one.addErrback(told("one"))
     worker = task.Cooperator().cooperate(work(one, two, None))
     worker.whenDone().addBoth(told("ended"))
-    reactor.callLater(0.01, worker.resume)
-    reactor.callLater(0.02, two.callback, 2)
-    reactor.callLater(0.03, one.callback, 1)
+    reactor.callLater(0.1, worker.resume)
+    reactor.callLater(0.2, two.callback, 2)
+    reactor.callLater(0.3, one.callback, 1)
 
 
 def stopped():
@@ -54,7 +54,7 @@ def raises():
         return lambda: True
 
     task.Cooperator(begin).coiterate(work(None)).addBoth(told("ended"))
-    reactor.callLater(0.01, over.callback, None)
+    reactor.callLater(0.1, over.callback, None)
 
 
 def schedules():
@@ -76,7 +76,7 @@ def schedules():
         except ValueError as error:
             over.callback(str(error))
 
-    reactor.callLater(0.01, once_more)
+    reactor.callLater(0.1, once_more)
 
 
 if sys.argv[1] == "stopped":
@@ -86,5 +86,5 @@ if sys.argv[1] == "stopped":
 task.cooperate(iter([None] * 3))
 over.addBoth(told("over"))
 globals()[sys.argv[1]]()
-reactor.callLater(0.06, reactor.stop)
+reactor.callLater(0.6, reactor.stop)
 reactor.run()
