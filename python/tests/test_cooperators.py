@@ -13,7 +13,6 @@ from deferreds.twisted import grammar
 from deferreds.twisted.running import run
 from deferreds.twisted.telling import KINDS
 
-from .recording_of import Ended, RecordingCase
 from .test_declared import Case
 from .test_recording import recorded
 
@@ -212,7 +211,7 @@ class Stopped(Case):
         self.assertEqual((script["version"], script["classes"]), (1, [["SchedulerStopped", "SchedulerError"]]))
         self.assertEqual(run(said.text.encode()).output, said.output)
 
-    def test_the_first_is_refused_if_it_is_started_again(self) -> None:
+    def test_one_that_is_started_again_is_refused(self) -> None:
         def program() -> None:
             clock = task.Clock()
             cooperator = cooperator_on(clock, 1)
@@ -221,143 +220,6 @@ class Stopped(Case):
             cooperator.start()
 
         self.assertEqual([(problem.reason, problem.kind) for problem in recorded(program).problems], [("Cooperator.start", "cooperator")])
-
-
-class AsEvents(RecordingCase):
-    """Cooperators on a Clock that no script has by name are recorded as the delayed calls and Deferreds that they are made of."""
-
-    #: by the words of the program, why no script has its second Cooperator by name
-    REASONS = {
-        "acts": "a task acts in the step in which it ends",
-        "many": "ticks of different numbers of steps",
-        "times": "ticks that are due after different times, or at once",
-        "starts": "Cooperator.start",
-        "raises": "a scheduler of a Cooperator raises an error",
-    }
-
-    def assert_as_events(self, ended: Ended, reason: str) -> None:
-        """A run was recorded so, for this reason, and the program prints the same for its script."""
-        self.assertEqual(ended.status, 0, ended.said)
-        self.assertIn(f"further Cooperators are recorded as events: {reason}\n", ended.said)
-        self.assertIn("./deferreds prints the same, line for line", ended.said)
-        self.assert_goes_together("run")
-        words = [event[0] for event in self.events("run")]
-        self.assertEqual((words.count("cooperate"), "cooperateIn" in words, words.count("later") > 0), (1, False, True))
-
-    def test_a_program_whose_time_is_virtual(self) -> None:
-        for case, reason in self.REASONS.items():
-            with self.subTest(case):
-                self.assert_as_events(self.record("-f", "--virtual", "-o", "run", "cooperators_on_a_clock.py", case), reason)
-
-    def test_a_test_with_a_clock(self) -> None:
-        self.copied("cooperators_on_a_clock.py", "on_a_clock.py")
-        for case, reason in self.REASONS.items():
-            with self.subTest(case):
-                self.assert_as_events(self.record("-f", "-o", "run", "--test", f"on_a_clock.OnAClock.test_{case}"), reason)
-
-
-class Unnamed(Case):
-    """What a Cooperator on a Clock does by itself, and what it refuses, where no script has it by name."""
-
-    def events_of(self, use: Callable[[task.Clock, task.Cooperator], object]) -> List[Any]:
-        """The events of a run in which a second Cooperator is used that is started after it was stopped, and time goes on then."""
-
-        def program() -> None:
-            clock = task.Clock()
-            cooperator_on(clock, 1).cooperate(work(1))
-            other = cooperator_on(clock, 2)
-            other.coiterate(work(1)).addErrback(lambda failure: None)
-            other.stop()
-            other.start()
-            use(clock, other)
-            for _ in range(6):
-                clock.advance(1)
-
-        said = self.said_of(program)
-        self.assertEqual((said.unnamed, said.hindrance), ("Cooperator.start", ""))
-        script = json.loads(said.text)
-        self.assertNotIn("cooperators", script)
-        return list(script["events"])
-
-    def test_a_tick_is_cancelled_where_no_task_takes_turns(self) -> None:
-        def use(clock: task.Clock, other: task.Cooperator) -> None:
-            made = other.cooperate(work(2))
-            made.pause()
-            made.resume()
-
-        words = [event[0] for event in self.events_of(use)]
-        self.assertEqual((words.count("later"), words.count("cancelCall")), (3, 2))
-
-    def test_a_tick_that_is_cancelled_where_it_was_scheduled(self) -> None:
-        def use(clock: task.Clock, other: task.Cooperator) -> None:
-            def again(failure: object) -> None:
-                other.start()
-                other.cooperate(work(1))
-
-            other.cooperate(work(1)).whenDone().addErrback(again)
-            clock.advance(1)
-            other.stop()
-
-        self.events_of(use)
-
-    def test_what_a_task_refuses_is_no_action(self) -> None:
-        def use(clock: task.Clock, other: task.Cooperator) -> None:
-            made = other.cooperate(work(2))
-            made.stop()
-
-            def refused() -> None:
-                with self.assertRaises(task.TaskStopped):
-                    made.stop()
-
-            def raises() -> None:
-                made.resume()
-
-            refused()
-            clock.callLater(1, refused)
-            defer.maybeDeferred(raises).addErrback(lambda failure: failure.trap(task.NotPaused) and None)
-
-        [body] = [event[2] for event in self.events_of(use) if event[0] == "maybe"]
-        self.assertEqual(body, {"end": ["raise", "NotPaused", ""]})
-
-    def test_a_deferred_of_when_done_that_was_fired_by_hand(self) -> None:
-        def use(clock: task.Clock, other: task.Cooperator) -> None:
-            done = other.cooperate(work(2)).whenDone()
-            done.callback(None)
-
-            def stop() -> None:
-                with self.assertRaises(defer.AlreadyCalledError):
-                    other.stop()
-                clock.callLater(1, work, 1)
-
-            clock.callLater(1, stop)
-
-        events = self.events_of(use)
-        self.assertIn("try", json.dumps([event for event in events if event[0] == "later"]))
-
-    def test_a_tick_that_the_program_runs_is_in_the_way(self) -> None:
-        def program() -> None:
-            clock = task.Clock()
-            cooperator_on(clock, 1).cooperate(work(1))
-            cooperator_on(clock, 2).cooperate(work(3))
-            clock.calls[1].func()  # type: ignore[attr-defined]
-
-        said = recorded(program)
-        self.assertEqual((said.unnamed, said.hindrance), ("", "a tick that the program itself runs"))
-        self.assertIn("cooperator", {problem.kind for problem in said.problems})
-
-    def test_two_deferreds_hold_a_task(self) -> None:
-        def use(clock: task.Clock, other: task.Cooperator) -> None:
-            first: defer.Deferred[int] = defer.Deferred()
-            second: defer.Deferred[int] = defer.Deferred()
-            made = other.cooperate(iter([first, second, None]))
-            clock.advance(2)
-            made.resume()
-            clock.advance(2)
-            second.callback(2)
-            first.callback(1)
-            first.addErrback(lambda failure: failure.trap(task.NotPaused) and None)
-
-        self.events_of(use)
 
 
 class Plain(Case):

@@ -251,14 +251,6 @@ class Fixed(unittest.TestCase):
         self.assertLess(call.key, turn.key)
         self.assertEqual(turn.due, 20_000)
 
-    def test_a_result_that_starts_a_loop_is_due_then_and_not_half_way_to_a_turn_that_is_far(self) -> None:
-        job = self.history.job()
-        self.history.turn(self.history.loop(3_600_000, 0), 1)
-        step = self.history.run(job, 5.4)
-        self.history.loop(300_000, 6)
-        self.history.settled()
-        self.assertEqual((job.due, step.time), (6_000, 6_000))
-
     def test_turns_in_another_order_than_they_are_due_in_are_refused(self) -> None:
         early = self.history.turn(self.history.loop(10, 0), 1)
         late = self.history.turn(self.history.loop(20, 0), 1)

@@ -1,7 +1,7 @@
 //! The passes of the reader, in the order of the refusals that they find.
 
 ghost use Rattle.std.specs.Prelude.{◌≡◌, ◌≤◌, length, true, IfOk, IfErr};
-ghost use Rattle.serde_json.specs.View.{view};
+ghost use Rattle.dv_document.specs.View.{view};
 ghost use Rattle.dv_script.specs.declared.limits.TheConstants.{MOST_POOLS};
 ghost use Rattle.dv_forms.specs.declared.limits.TheConstants.{WIDEST_LIMIT, WIDEST_NODES};
 ghost use Rattle.dv_questions.specs.Questions.{asked_by};
@@ -21,11 +21,13 @@ use dv_questions::asking::all_suit;
 use dv_questions::question::{Question, has_body, has_cooperator, is_among};
 use dv_script::limits::{MOST_BYTES, MOST_LEVELS};
 use dv_script::script::{NamedBody, NamedCooperator, NamedPool, Script};
-use serde_json::Value as Json;
+use dv_document::document::{Document, DocumentFault};
+use dv_document::places::Json;
+use dv_document::room::Room;
 use std::alloc::Global;
 
-fn is_version(json: &Json) -> bool
-    ensures { result ≡ is_version (view json.now) }
+fn is_version(json: Json<'_>) -> bool
+    ensures { result ≡ is_version (view json.entry) }
 {
     match json.get("version") {
         Some(version) => match version.as_u64() {
@@ -37,16 +39,16 @@ fn is_version(json: &Json) -> bool
 }
 
 /// Whether each text of the document answers the question well, as one of a script of its version.
-fn answers(question: &Question<'_>, json: &Json, draft: &Draft) -> bool
-    ensures { result ≡ answers (asked_by question.now) (view json.now) draft.now }
+fn answers(question: &Question<'_>, json: Json<'_>, draft: &Draft) -> bool
+    ensures { result ≡ answers (asked_by question.now) (view json.entry) draft.now }
 {
     let script = Want::Keyed(Keyed::Script(draft.version));
     all_suit(question, MOST_LEVELS + 1, script, json)
 }
 
 /// Whether the document answers all six questions well, which are asked in one pass.
-fn is_sound(json: &Json, draft: &Draft) -> bool
-    ensures { result ≡ true → IsSound (view json.now) draft.now }
+fn is_sound(json: Json<'_>, draft: &Draft) -> bool
+    ensures { result ≡ true → IsSound (view json.entry) draft.now }
 {
     let pools = draft.script.pools.as_slice();
     let bodies = draft.script.bodies.as_slice();
@@ -61,23 +63,23 @@ fn is_sound(json: &Json, draft: &Draft) -> bool
     answers(&every, json, draft)
 }
 
-fn keeps_version(sound: bool, json: &Json, draft: &Draft) -> bool
-    requires { sound ≡ true → IsSound (view json.now) draft.now }
-    ensures { result ≡ keeps_version (view json.now) draft.now }
+fn keeps_version(sound: bool, json: Json<'_>, draft: &Draft) -> bool
+    requires { sound ≡ true → IsSound (view json) draft.now }
+    ensures { result ≡ keeps_version (view json.entry) draft.now }
 {
     sound || answers(&Question::Words(draft.version), json, draft)
 }
 
-fn are_named(sound: bool, json: &Json, draft: &Draft) -> bool
-    requires { sound ≡ true → IsSound (view json.now) draft.now }
-    ensures { result ≡ are_named (view json.now) draft.now }
+fn are_named(sound: bool, json: Json<'_>, draft: &Draft) -> bool
+    requires { sound ≡ true → IsSound (view json) draft.now }
+    ensures { result ≡ are_named (view json.entry) draft.now }
 {
     sound || answers(&Question::Names(draft.version), json, draft)
 }
 
-fn are_known(sound: bool, json: &Json, draft: &Draft) -> bool
-    requires { sound ≡ true → IsSound (view json.now) draft.now }
-    ensures { result ≡ are_known (view json.now) draft.now }
+fn are_known(sound: bool, json: Json<'_>, draft: &Draft) -> bool
+    requires { sound ≡ true → IsSound (view json) draft.now }
+    ensures { result ≡ are_known (view json.entry) draft.now }
 {
     draft.all_declared && (sound || answers(&Question::Classes(&draft.script.classes), json, draft))
 }
@@ -91,9 +93,9 @@ fn are_distinct(pools: &[NamedPool]) -> bool
     }
 }
 
-fn are_pooled(sound: bool, json: &Json, draft: &Draft) -> bool
-    requires { sound ≡ true → IsSound (view json.now) draft.now }
-    ensures { result ≡ are_pooled (view json.now) draft.now }
+fn are_pooled(sound: bool, json: Json<'_>, draft: &Draft) -> bool
+    requires { sound ≡ true → IsSound (view json) draft.now }
+    ensures { result ≡ are_pooled (view json.entry) draft.now }
 {
     let pools = draft.script.pools.as_slice();
     are_distinct(pools) && (sound || answers(&Question::Pools(pools), json, draft))
@@ -108,9 +110,9 @@ fn have_own_names(bodies: &[NamedBody]) -> bool
     }
 }
 
-fn have_bodies(sound: bool, json: &Json, draft: &Draft) -> bool
-    requires { sound ≡ true → IsSound (view json.now) draft.now }
-    ensures { result ≡ have_bodies (view json.now) draft.now }
+fn have_bodies(sound: bool, json: Json<'_>, draft: &Draft) -> bool
+    requires { sound ≡ true → IsSound (view json) draft.now }
+    ensures { result ≡ have_bodies (view json.entry) draft.now }
 {
     let bodies = draft.script.bodies.as_slice();
     have_own_names(bodies) && (sound || answers(&Question::Bodies(bodies), json, draft))
@@ -127,9 +129,9 @@ fn are_apart(cooperators: &[NamedCooperator]) -> bool
     }
 }
 
-fn have_cooperators(sound: bool, json: &Json, draft: &Draft) -> bool
-    requires { sound ≡ true → IsSound (view json.now) draft.now }
-    ensures { result ≡ have_cooperators (view json.now) draft.now }
+fn have_cooperators(sound: bool, json: Json<'_>, draft: &Draft) -> bool
+    requires { sound ≡ true → IsSound (view json) draft.now }
+    ensures { result ≡ have_cooperators (view json.entry) draft.now }
 {
     let cooperators = draft.script.cooperators.as_slice();
     are_apart(cooperators) && (sound || answers(&Question::Cooperators(cooperators), json, draft))
@@ -138,8 +140,8 @@ fn have_cooperators(sound: bool, json: &Json, draft: &Draft) -> bool
 /// Whether a draft of this JSON value keeps to its version, is small enough, is named well and
 /// knows its classes, pools, bodies and Cooperators, or the least refusal. The questions are asked one by one
 /// only where the pass that asks all at once has failed.
-fn accept(json: &Json, draft: &Draft) -> Result<(), ScriptFault>
-    ensures { Accepts (view json.now) draft.now result }
+fn accept(json: Json<'_>, draft: &Draft) -> Result<(), ScriptFault>
+    ensures { Accepts (view json.entry) draft.now result }
 {
     let sound = is_sound(json, draft);
     if !keeps_version(sound, json, draft) {
@@ -168,8 +170,8 @@ fn accept(json: &Json, draft: &Draft) -> Result<(), ScriptFault>
 
 /// The script that a JSON value is, or the least refusal.
 #[tactic(auto, using(crate::proofs::Accepted::accepted, crate::proofs::Accepted::refused, crate::proofs::Accepted::unshaped))]
-fn judge(alloc: Global, json: &Json) -> Result<Script, ScriptFault>
-    ensures { Judged (view json.now) result }
+fn judge(alloc: Global, json: Json<'_>) -> Result<Script, ScriptFault>
+    ensures { Judged (view json.entry) result }
 {
     if !is_version(json) {
         return Err(ScriptFault::BadVersion);
@@ -193,15 +195,15 @@ fn passed(alloc: Global, bytes: &[u8]) -> Result<Script, ScriptFault>
     if bytes.len() > WIDEST_BYTES {
         return Err(ScriptFault::TooLong);
     }
-    match Json::from_slice(alloc, bytes) {
-        Ok(json) => if bytes.len() > most_bytes_of(&json) {
+    let mut room = Room::new(alloc);
+    match Document::read(alloc, bytes, &mut room) {
+        Ok(document) => if bytes.len() > most_bytes_of(document.root()) {
             Err(ScriptFault::TooLong)
         } else {
-            judge(alloc, &json)
+            judge(alloc, document.root())
         },
-        Err(error) => if error.is_memory() {
-            Err(ScriptFault::OutOfMemory)
-        } else if bytes.len() > MOST_BYTES {
+        Err(DocumentFault::OutOfMemory) => Err(ScriptFault::OutOfMemory),
+        Err(DocumentFault::NotJson) => if bytes.len() > MOST_BYTES {
             Err(ScriptFault::TooLong)
         } else {
             Err(ScriptFault::NotJson)

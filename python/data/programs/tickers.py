@@ -1,27 +1,6 @@
-"""Three Cooperators on a real reactor, whose ticks are due after different times. One is stopped with tasks that are paused and busy.
-
-The reactor's time is its own: it goes on to what is due, so that nothing is late on a busy machine.
-"""
+"""Three Cooperators on a real reactor, whose ticks are due after different times. One is stopped with tasks that are paused and busy."""
 
 from twisted.internet import reactor, task
-
-passed = 0.0
-iterate = reactor.doIteration
-
-
-def seconds():
-    return 1_000_000 + passed
-
-
-def wait(most):
-    """Nothing comes from elsewhere, so that all of the time passes that may."""
-    global passed
-    passed += most or 0
-    iterate(0)
-
-
-reactor.seconds = seconds
-reactor.doIteration = wait
 
 
 def work(steps):

@@ -258,12 +258,8 @@ class Action(List[Any]):
     caught = False
     #: the Deferred of the inline body in which such a one is logged
     helper: Optional[Record] = None
-    #: of what a further Cooperator does: after how many parts of lines it did what by itself, an action or a step
+    #: of what a further Cooperator does on a real reactor: after how many parts of lines it did what by itself, an action or a step
     inner: Optional[List[Tuple[int, Any]]] = None
-    #: the END that raises the failure which such an action raised
-    raises: Any = None
-    #: before which part of lines it begins, where it isn't among these itself
-    at: Optional[int] = None
 
 
 class Advance(Action):
@@ -707,8 +703,8 @@ class Observer:
         finally:
             self.frame, self.acting = before, acting
 
-    def new_body(self, kind: str, is_deep: bool = False) -> Any:
-        """A body that the program hands to Twisted. `is_deep`: it may come to lie in many others."""
+    def new_body(self, kind: str) -> Any:
+        """A body that the program hands to Twisted."""
         return kind
 
     def depth_of(self, body: Any) -> int:
@@ -776,16 +772,9 @@ class Observer:
         """A failure, as the work of a job has it."""
         return []
 
-    def raising(self, error: BaseException) -> Any:
-        """The END that raises a failure."""
-        return []
-
     def firing(self, record: Record, result: object, outcome: Outcome) -> Action:
         """The action that fires a Deferred with this, which is shown so."""
         return Action()
-
-    def end_inner(self, action: Action, error: BaseException) -> None:
-        """What a Cooperator does by itself has failed, which is noted as this action."""
 
     # the clock
 

@@ -37,8 +37,6 @@ class Own(NamedTuple):
     wait: Callable[[Pace, float], Waiting]
     #: gets the delay, as it will be recorded
     note: Callable[[Time], None]
-    #: gets what a Clock has scheduled
-    keep: Callable[[Any], object] = lambda scheduled: None
 
 
 #: finds out what it is that Twisted schedules
@@ -120,9 +118,7 @@ def _instrumented_later(
     if own is not None:
         own.note(Time(delay))
         watcher.tell(*own.line, due_time(watcher, delay))
-        scheduled = _later(self, delay, f, *args, **kwargs)
-        own.keep(scheduled)
-        return scheduled
+        return _later(self, delay, f, *args, **kwargs)
     if watcher.quiet:
         watcher.problem("a delayed call from inside Twisted", "clock")
         return _later(self, delay, f, *args, **kwargs)
@@ -181,15 +177,11 @@ def tell_due(
         return happen()
     except BaseException as error:
         watcher.tell_unhandled(error)
-        if clock is not None and leaves_calls(watcher, clock):
+        # (the list isn't in order, if a call was reset)
+        left = clock is not None and any(call.getTime() <= clock.seconds() for call in clock.calls)
+        if left and not watcher.goes_on_after_errors:
             watcher.quirk(Entry.ERROR_LEAVES_ADVANCE)
         raise
-
-
-def leaves_calls(watcher: Observer, clock: task.Clock) -> bool:
-    """Whether a Clock leaves calls that are due, if one raises now."""
-    # (the list isn't in order, if a call was reset)
-    return not watcher.goes_on_after_errors and any(call.getTime() <= clock.seconds() for call in clock.calls)
 
 
 def _instrumented_advance(self: task.Clock, amount: float) -> None:

@@ -17,7 +17,7 @@ from __future__ import annotations
 import functools
 import sys
 from functools import partial
-from types import CodeType, FrameType, FunctionType, MethodType
+from types import CodeType, FunctionType, MethodType
 from typing import Any, Callable, Dict, List, Optional, Tuple
 
 from twisted.internet import defer
@@ -549,17 +549,6 @@ def _run_own_side(
     finally:
         frame.passing = before
         record.ran = True
-
-
-def running_side() -> Optional[Record]:
-    """The Deferred of which Twisted's own side runs, where one does: the innermost."""
-    frame: Optional[FrameType] = sys._getframe(1)
-    while frame is not None and frame.f_code is not _OWN_SIDE:
-        frame = frame.f_back
-    return None if frame is None else frame.f_locals["record"]
-
-
-_OWN_SIDE: CodeType = _run_own_side.__code__
 
 
 def _second_parts(given: Outcome) -> Optional[Outcome]:

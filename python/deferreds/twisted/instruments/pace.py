@@ -113,12 +113,6 @@ class Pace:
         """A tick is scheduled, so many seconds from now: one of the first Cooperator, or of a further one."""
         return self._make(Entry(len(self._waiting), tick=Tick(round(delay * UNITS), further)))
 
-    def hold_place(self) -> Waiting:
-        """A call could be scheduled now that is due at once: `run_at_once` has it be so."""
-        waiting = Waiting(Entry(len(self._waiting), 0), Time(0), Time(0))
-        self._waiting.append(waiting)
-        return waiting
-
     def _make(self, entry: Entry) -> Waiting:
         waiting = Waiting(entry, Time(0), Time(0))
         self._waiting.append(waiting)
@@ -252,16 +246,6 @@ class Pace:
         return advance
 
     # times
-
-    def run_at_once(self, waiting: Waiting, after: Action, advance: Advance) -> None:
-        """Has a call be scheduled at the end of what an advance has run, and be run next, by another advance."""
-        place = next(place for place, step in enumerate(self._steps) if self._advances.get(step) is after)
-        before = self._steps[place]
-        before.closed = True
-        before.make(waiting.entry)
-        step = Step(waiting.entry, before.real)
-        self._steps.insert(place + 1, step)
-        self._advances[step] = advance
 
     def leave_ticks(self, has_events: Callable[[Advance], bool]) -> None:
         """Has ticks of further Cooperators come from elsewhere, those in which something happens: an event, or something is scheduled."""

@@ -451,10 +451,10 @@ class _Settling:
         choices = [step.real // grain * grain, (now // grain + 1) * grain, now + 1]
         if self._over:
             choices.insert(0, self._most(step, choices[0]))
-        needed = [*(choice for choice in choices if choice >= least), least] if least > now else []
         if top is not None and not (self._over and self._manner.exact):  # (there, others may need the room)
             choices.insert(2, now + (top - now) // 2)
-        choices = [*needed, *choices]  # (half of what is left may be hours: it comes after the least that is needed)
+        if least > now:
+            choices = [*(choice for choice in choices if choice >= least), least, *choices]
         for below in (soft, None):
             for choice in choices:
                 if now < choice and (top is None or choice < top) and (below is None or choice < below):

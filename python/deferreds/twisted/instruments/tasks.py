@@ -4,8 +4,8 @@ The first Cooperator of a run that gets a task has no name in its script, and ea
 its ticks. What a scheduler does is known once it has scheduled the first. Until then the first task is tried: if no tick reaches the
 clock, the Cooperator is recorded as the Python that it is made of.
 
-It also notes what a further Cooperator does by itself (`inner`). If no script has it by name, the run is recorded without it
-(`deferreds.twisted.recording.unnamed`).
+On a real reactor it also notes what a further Cooperator does by itself (`inner`). If no script has it by name, the run is recorded without
+it (`deferreds.twisted.recording.unnamed`).
 """
 
 from __future__ import annotations
@@ -20,9 +20,8 @@ from twisted.internet.defer import AlreadyCalledError, Deferred
 from .. import grammar
 from ..profile import Entry
 from ..telling import Action, Line, Observer, Record, Thing, Time, observer_of
-from .clock import Own, leaves_calls, own_calls, tried
-from .deferreds import running_side
-from .inner import Inner, TickCall
+from .clock import Own, own_calls, tried
+from .inner import Inner
 from .pace import is_real
 
 _Task = task.CooperativeTask
@@ -78,8 +77,6 @@ class Cooperating:
         #: where it was made, and after how many seconds its ticks are due
         self.made_at: Any = None
         self.delay = 0.0
-        #: of a further one on a Clock: the ticks that are scheduled, the last one last
-        self.calls: List[TickCall] = []
 
     @property
     def is_further(self) -> bool:
@@ -92,10 +89,8 @@ class Cooperating:
         return FURTHER if self.is_further else "cooperator"
 
     def next_is(self, stepped: Any) -> bool:
-        """Whether it is the turn of the one that is stepped, where nobody is skipped. One that was stopped with all others has no place."""
+        """Whether it is the turn of the one that is stepped, where nobody is skipped."""
         tasks = self.cooperator._tasks
-        if stepped not in tasks:
-            return True
         if self.place >= len(tasks):
             self.place = 0
         expected = tasks[self.place] is stepped
@@ -119,11 +114,6 @@ class Cooperating:
         """Is another Cooperator from here on."""
         self.cooperator._dv_cooperating = None
         self.cooperator, self.place = cooperator, 0
-
-    def keep(self, scheduled: Any) -> None:
-        """A Clock has scheduled its tick."""
-        if self.calls:
-            self.calls[-1].scheduled = scheduled
 
     def name_it(self, thing: Thing) -> None:
         """Has a name from the beginning of the run on."""
@@ -179,8 +169,8 @@ class Known:
         self.steps = steps
         self.cooperating = cooperating
         self.held_by: Optional[Deferred[Any]] = None
-        #: the Deferreds that hold it, each with the bodies of its pair, where these are noted
-        self.pairs: List[Tuple[Record, Tuple[Any, Any]]] = []
+        #: the bodies of the pair of the Deferred that holds it, where these are noted
+        self.pair: Any = None
 
 
 def _known(watcher: Optional[Observer], cooperative: Any) -> Optional[Known]:
@@ -217,7 +207,7 @@ def know(watcher: Observer, cooperating: Cooperating) -> None:
 
 def _inner(watcher: Observer, cooperating: Cooperating) -> Optional[Inner]:
     """Where it is noted what this Cooperator does by itself, if that is noted."""
-    return _cooperators(watcher).inner if cooperating.is_further else None
+    return _cooperators(watcher).inner if cooperating.is_further and watcher.pace is not None else None
 
 
 def _act(watcher: Observer, cooperating: Cooperating, action: Action, call: Callable[..., Any], *args: Any) -> Any:
@@ -228,11 +218,9 @@ def _act(watcher: Observer, cooperating: Cooperating, action: Action, call: Call
 
 def _in_pair(watcher: Observer, known: Known, side: int, call: Callable[..., Any], *args: Any) -> Any:
     """Performs what a side of the pair does by which a Deferred holds a task."""
-    if not known.pairs:
+    pair, known.pair = known.pair, None
+    if pair is None:
         return call(*args)
-    held_by = running_side() if len(known.pairs) > 1 else None
-    place = next((place for place, (record, _) in enumerate(known.pairs) if record is held_by), 0)
-    _, pair = known.pairs.pop(place)
     return _cooperators(watcher).inner.in_pair(watcher, pair[side], call, *args)
 
 
@@ -241,33 +229,6 @@ def _quirk(watcher: Observer, cooperating: Cooperating, entry: Entry) -> None:
     watcher.quirk(entry)
     if cooperating.is_further:
         _cooperators(watcher).quirks.append((len(watcher.parts), entry))
-
-
-def _refuse_error(watcher: Observer, cooperating: Cooperating, reason: str) -> None:
-    """A further Cooperator raises an error, which no script says that has it by name.
-
-    If an entry of the profile was reached by now, that explains why such a script prints something else from there on.
-    """
-    if cooperating.is_further and not watcher.quirks:
-        watcher.problem(reason, FURTHER)
-
-
-def _note_scheduled(watcher: Observer, cooperating: Cooperating, delay: Time) -> None:
-    """A tick is scheduled by the clock of the run."""
-    cooperating.delays.append(delay)
-    inner = _inner(watcher, cooperating)
-    if inner is not None and watcher.pace is None:
-        cooperating.calls.append(inner.schedule(watcher, cooperating.made_at, delay))
-
-
-def _cancelling(watcher: Observer, cooperating: Cooperating, call: Callable[[], object]) -> None:
-    """Calls what may cancel a tick that is scheduled on a Clock, and notes whether it has."""
-    call()
-    for waiting in cooperating.calls:
-        if not waiting.scheduled.active():
-            cooperating.calls.remove(waiting)
-            _cooperators(watcher).inner.cancel(watcher, waiting)
-            return
 
 
 # making
@@ -294,7 +255,7 @@ def _instrumented_init(self: Any, iterator: Iterator[Any], cooperator: Any) -> N
     if cooperating is None:
         _try(watcher, self, iterator, cooperator)
         return
-    known = Known(watcher.thing("task"), watcher.new_body("steps", cooperating.is_further), cooperating)
+    known = Known(watcher.thing("task"), watcher.new_body("steps"), cooperating)
     action = Action(["cooperate", known.thing, known.steps])
     _bind(watcher, cooperating, self, iterator, known, action)
     _act(watcher, cooperating, action, _tell_made, watcher, cooperating, known, self, iterator)
@@ -337,6 +298,7 @@ def _begun_stopped(watcher: Observer, cooperator: Any) -> Optional[Cooperating]:
     if not _has_room(watcher):
         return None
     cooperating = _named(watcher, cooperator, _made_at(watcher, cooperator))
+    _cooperators(watcher).inner.is_unclear |= watcher.pace is None
     _act(watcher, cooperating, Action(["stopCooperator", cooperating.thing]), watcher.tell, *_stop_line(cooperating))
     return cooperating
 
@@ -389,7 +351,7 @@ class _Trying:
         self._iterator = iterator
         self._cooperator = cooperator
         self._spot = watcher.spot()
-        self._steps = watcher.new_body("steps", True)
+        self._steps = watcher.new_body("steps")
         self.action = Action(["cooperate", None, self._steps])
         self.is_begun = False
 
@@ -434,8 +396,7 @@ def _own_tick(watcher: Observer, call: Callable[..., Any]) -> Optional[Own]:
     cooperating.seen = True
     further = cooperating.is_further
     line = (cooperating.word("later tick", " "),)
-    note = functools.partial(_note_scheduled, watcher, cooperating)
-    return Own(line, lambda pace, delay: pace.tick(delay, further), note, cooperating.keep)
+    return Own(line, lambda pace, delay: pace.tick(delay, further), cooperating.delays.append)
 
 
 def _instrumented_reschedule(self: Any) -> None:
@@ -448,11 +409,7 @@ def _instrumented_reschedule(self: Any) -> None:
     if cooperating.in_tick and sys._getframe(1).f_code is not _tick.__code__:
         _quirk(watcher, cooperating, Entry.TICK_SCHEDULED_IN_A_TICK)
     cooperating.seen = False
-    try:
-        _reschedule(self)
-    except BaseException:
-        _refuse_error(watcher, cooperating, "a scheduler of a Cooperator raises an error")
-        raise
+    _reschedule(self)
     if not cooperating.seen:
         _tell_tick_alone(watcher, cooperating)
 
@@ -460,8 +417,6 @@ def _instrumented_reschedule(self: Any) -> None:
 def _tell_tick_alone(watcher: Observer, cooperating: Cooperating) -> None:
     """A tick was scheduled by something that isn't the clock of the run: it is due 1 from now."""
     cooperating.alone = True
-    if cooperating.is_further:
-        _cooperators(watcher).inner.refuse("a Cooperator whose ticks are scheduled by something other than the clock of the run")
     if watcher.clock is not None:
         watcher.problem("a Cooperator beside a Clock that doesn't schedule it", cooperating.kind)
     if cooperating.cooperator._delayedCall is None:
@@ -480,8 +435,6 @@ def _instrumented_tick(self: Any) -> None:
             watcher.problem("a tick inside Twisted", cooperating.kind)
         _run_tick(watcher, cooperating)
     else:
-        if cooperating.is_further:
-            _cooperators(watcher).inner.refuse("a tick that the program itself runs")
         if watcher.frame is not watcher.top:
             watcher.problem("a tick inside a body", cooperating.kind)
         if not cooperating.alone:
@@ -495,34 +448,16 @@ def _run_tick(watcher: Observer, cooperating: Cooperating) -> None:
         watcher.tell("advance ", Time(cooperating.time))
     watcher.tell(cooperating.word("tick"))
     cooperating.steps, cooperating.in_tick = 0, True
-    event = watcher.happening()
+    event, inner = watcher.happening(), _inner(watcher, cooperating)
     try:
-        if event is None or not cooperating.is_further:
+        if event is None or inner is None:
             _tick(cooperating.cooperator)
         else:
-            _run_further(watcher, cooperating, event)
+            inner.within(event, _tick, cooperating.cooperator)
     finally:
         left = bool(cooperating.cooperator._tasks)
         cooperating.ticks.append(Tick(cooperating.steps, left, event))
         cooperating.in_tick = False
-
-
-def _run_further(watcher: Observer, cooperating: Cooperating, event: Action) -> None:
-    """Runs a tick of a further Cooperator, whose line was the last."""
-    inner, calls, clock = _cooperators(watcher).inner, cooperating.calls, watcher.clock
-    tick = functools.partial(_tick, cooperating.cooperator)
-    try:
-        if not calls:
-            inner.run_in_event(watcher, event, cooperating.made_at, tick)
-        else:
-            call = min(calls, key=lambda call: call.due)
-            calls.remove(call)
-            inner.run_call(watcher, call, tick)
-    except BaseException:
-        _refuse_error(watcher, cooperating, "a tick raises an error")
-        if watcher.pace is None and clock is not None and leaves_calls(watcher, clock):
-            inner.quirks.append((len(watcher.parts), Entry.ERROR_LEAVES_ADVANCE))
-        raise
 
 
 def _instrumented_remove(self: Any, cooperative: Any) -> None:
@@ -533,10 +468,7 @@ def _instrumented_remove(self: Any, cooperative: Any) -> None:
             _quirk(watcher, cooperating, Entry.TASK_ENDED_TWICE)
         elif self._tasks.index(cooperative) < cooperating.place:
             cooperating.place -= 1
-    if watcher is None or cooperating is None:
-        _remove(self, cooperative)
-    else:
-        _cancelling(watcher, cooperating, functools.partial(_remove, self, cooperative))
+    _remove(self, cooperative)
 
 
 # steps
@@ -618,13 +550,16 @@ def _tell_ended(watcher: Observer, known: Known, cooperative: Any, state: Any, r
     elif _cooperating(watcher, cooperative._cooperator) is not None:
         cooperating.live -= 1
     watcher.tell("end ", known.thing, " ", watcher.texts.outcome(result))
+    if inner is not None:
+        for deferred in cooperative._deferreds:
+            inner.note_firing(watcher, deferred, result)
     try:
-        if inner is None:
-            _complete(cooperative, state, result)
-        else:
-            inner.fire_all(watcher, cooperative, result, _complete, state, result)
-    except AlreadyCalledError:
-        _quirk(watcher, cooperating, Entry.REFUSED_WHEN_DONE)
+        _complete(cooperative, state, result)
+    except BaseException as error:
+        if inner is not None:
+            inner.is_unclear = True  # it isn't known which were fired
+        if isinstance(error, AlreadyCalledError):
+            _quirk(watcher, cooperating, Entry.REFUSED_WHEN_DONE)
         raise
 
 
@@ -652,20 +587,16 @@ def _hold(watcher: Observer, cooperative: Any, known: Known) -> None:
     """Twisted pauses a task whose step gave a Deferred."""
     if cooperative._completionState is not None:
         _quirk(watcher, known.cooperating, Entry.TASK_ENDED_TWICE)
-        _pause(cooperative)
-        return
-    held_by, known.held_by = known.held_by, None
-    if held_by is None:
-        _pause(cooperative)
-        return
-    record = watcher.record(held_by)
-    watcher.tell("hold ", known.thing, " ", record)
+    elif known.held_by is not None:
+        record = watcher.record(known.held_by)
+        watcher.tell("hold ", known.thing, " ", record)
+        known.held_by = None
+        inner = _inner(watcher, known.cooperating)
+        if inner is not None:
+            inner.is_unclear |= known.pair is not None  # two Deferreds hold it
+            known.pair = watcher.new_body("callback"), watcher.new_body("callback")
+            inner.note(watcher, Action(["addCallbacks", record, *known.pair]))
     _pause(cooperative)
-    inner = _inner(watcher, known.cooperating)
-    if inner is not None:
-        pair = watcher.new_body("callback", True), watcher.new_body("callback", True)
-        known.pairs.append((record, pair))
-        inner.note(watcher, Action(["addCallbacks", record, *pair]))
 
 
 def _instrumented_resume(self: Any) -> None:
@@ -713,7 +644,7 @@ def _act_when_done(watcher: Observer, cooperative: Any, known: Known) -> Any:
         action[1] = record
         watcher.tell("whendone ", known.thing, " ", record)
         if inner is not None and cooperative._completionState is not None:
-            inner.fire(watcher, deferred, cooperative._completionResult)
+            inner.note_firing(watcher, deferred, cooperative._completionResult)
 
     def ask() -> Any:
         watcher.expect(made)
@@ -739,8 +670,6 @@ def _instrumented_stop_all(self: Any) -> None:
         return
     if watcher.quiet:
         watcher.problem("Cooperator.stop inside Twisted", cooperating.kind)
-        if cooperating.is_further:
-            _cooperators(watcher).inner.refuse("Cooperator.stop inside Twisted")
         _stop_all(self)
         return
     if cooperating.thing is None:
@@ -752,7 +681,7 @@ def _tell_stopped(watcher: Observer, cooperating: Cooperating) -> None:
     watcher.tell(*_stop_line(cooperating))
     if len(cooperating.cooperator._tasks) > 1:
         _quirk(watcher, cooperating, Entry.TASK_LEFT_BY_STOP)
-    _cancelling(watcher, cooperating, functools.partial(_stop_all, cooperating.cooperator))
+    _stop_all(cooperating.cooperator)
 
 
 def _instrumented_start_all(self: Any) -> None:

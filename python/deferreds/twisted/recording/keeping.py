@@ -52,7 +52,7 @@ class Keeping:
         """Keeps a run that ended so, and before which so many events were, which aren't kept. What can't be kept is reported."""
         refusals = [problem for problem in said.problems if problem not in said.too_large]
         if refusals or said.script is None:
-            self._refuse(refusals, said.hindrance)
+            self._refuse(refusals)
             return self._write_refused(said, how, earlier, refusals)
         if said.is_empty:
             self._tell_nothing()
@@ -79,13 +79,11 @@ class Keeping:
         else:
             self.messages.say("nothing was recorded: the program has used no Deferreds")
 
-    def _refuse(self, refusals: "list[Problem]", hindrance: str) -> None:
+    def _refuse(self, refusals: "list[Problem]") -> None:
         for problem in dict.fromkeys(refusals):
             at = f", at {problem.place}" if problem.place else ""
             plainly = f" (--plain {problem.kind} tells it as what it is made of)" if problem.kind else ""
             self.messages.say(f"a script can't say this: {problem.reason}{at}{plainly}")
-        if hindrance:
-            self.messages.say(f"further Cooperators can't be recorded as events: {hindrance}")
 
     def _write(self, said: Said, how: str, earlier: int) -> Status:
         agreed = agreement(said, self._asked)

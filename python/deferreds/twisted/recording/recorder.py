@@ -389,7 +389,6 @@ class Recorder(Observer):
             self.events.append(action)
             self.begins.append(before)
         else:
-            action.at = before
             self.frame.note(action)
 
     def _end_action(self, run: Run, action: Action, error: BaseException) -> None:
@@ -410,16 +409,9 @@ class Recorder(Observer):
         said = self.texts.note(text)
         self.act(Action(["note", said]), self.tell, "note ", Text(compact(said), weight_of(said)))
 
-    def end_inner(self, action: Action, error: BaseException) -> None:
-        """What a Cooperator does by itself has failed, which is noted as this action."""
-        action.raised = self.texts.failure(error).text
-        if self.frame.kind not in ("event", "inline"):
-            self.parts.append(Failed(action))
-            self.failed.append(action)
-
-    def new_body(self, kind: str, is_deep: bool = False) -> Union[Body, Steps]:
-        """A body that the program hands to Twisted. `is_deep`: it may come to lie in many others."""
-        depth = max(self.frame.depth, SHALLOW) + 1 if is_deep else self.frame.depth + 1
+    def new_body(self, kind: str) -> Union[Body, Steps]:
+        """A body that the program hands to Twisted."""
+        depth = self.frame.depth + 1
         return Steps(depth) if kind == "steps" else Body(kind, depth)
 
     def depth_of(self, body: Any) -> int:

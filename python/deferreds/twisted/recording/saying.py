@@ -27,7 +27,7 @@ from .outcomes import outcomes_of
 from .places import FreeNames, name_of_spot
 from .recorder import Problem, Recorder
 from .ticking import Uneven, changes_of, places_of
-from .unnamed import CannotTell, without_further
+from .unnamed import without_further
 from .whereabouts import Acted, actions_of, whereabouts_of
 
 _FINEST = 10**9
@@ -58,8 +58,6 @@ class Said:
         self.problems: List[Problem] = []
         #: why further Cooperators aren't in the script, where it is of a run that has some
         self.unnamed = ""
-        #: what stands in the way of that, where it does
-        self.hindrance = ""
         #: by how many events have ended of those by which runs count, how many of the recorded ones; None: as many
         self._counts: Optional[Sequence[int]] = None
         #: those of the problems that are of the size of the whole run alone: the script is of its beginning
@@ -176,14 +174,11 @@ class Said:
         reasons = [problem.reason for problem in self._recorder.problems if problem.kind == FURTHER]
         reasons += [] if conflict is None else [conflict.reason]
         reasons += filter(None, map(self._lack, further))
-        if not further or not reasons:
-            return False
-        try:
-            self._recorder, self._counts = without_further(self._recorder)
-        except CannotTell as hindrance:
-            self.hindrance = str(hindrance)
+        told = without_further(self._recorder) if further and reasons else None
+        if told is None:
             return False
         self.unnamed = reasons[0]
+        self._recorder, self._counts = told
         return True
 
     def _lack(self, cooperating: Cooperating) -> str:

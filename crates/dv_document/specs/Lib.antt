@@ -1,0 +1,5 @@
+pub mod Fits
+pub mod Kinds
+pub mod Places
+pub mod Tokens
+pub mod View
