@@ -1,4 +1,4 @@
-ghost use Rattle.serde_json.specs.View.{items_view};
+ghost use Rattle.dv_document.specs.View.{items_view};
 ghost use Rattle.dv_clock.specs.declared.limits.TheConstants.{MOST_DELAY};
 ghost use Rattle.dv_script.specs.declared.limits.TheConstants.{MOST_PLACE, MOST_PLACES};
 ghost use Rattle.dv_forms.specs.Answer.{Reads};
@@ -14,6 +14,7 @@ use crate::leaf::{
 use crate::shape_fault::ShapeFault;
 use crate::value::value;
 use dv_clock::limits::MOST_DELAY;
+use dv_document::places::Elements;
 use dv_script::action::{GatherFlag, ListFlag};
 use dv_script::limits::MOST_PLACES;
 use dv_value::boxed::Boxed;
@@ -22,30 +23,37 @@ use dv_value::classes::Classes;
 use dv_value::items::Items;
 use dv_value::text::Text;
 use dv_value::value::Value;
-use serde_json::Value as Json;
 use std::alloc::Global;
 
 /// A text alone.
 #[inline(always)]
 #[tactic(auto, unfolding(crate::specs::Parts::sole))]
-pub fn one_text(alloc: Global, arguments: &[Json]) -> Result<Text, ShapeFault>
-    ensures { Reads result (sole text_at (items_view arguments.now)) }
+pub fn one_text(alloc: Global, arguments: Elements<'_>) -> Result<Text, ShapeFault>
+    ensures { Reads result (sole text_at (items_view arguments.entry)) }
 {
     text(alloc, one(arguments)?)
 }
 
 /// A value alone.
 #[tactic(auto, unfolding(crate::specs::Parts::sole))]
-pub fn one_value(alloc: Global, classes: &Classes, arguments: &[Json]) -> Result<Value, ShapeFault>
-    ensures { Reads result (sole (value_at classes.now) (items_view arguments.now)) }
+pub fn one_value(
+    alloc: Global,
+    classes: &Classes,
+    arguments: Elements<'_>,
+) -> Result<Value, ShapeFault>
+    ensures { Reads result (sole (value_at classes.now) (items_view arguments.entry)) }
 {
     value(alloc, classes, one(arguments)?)
 }
 
 /// A failure alone, as a value.
 #[tactic(auto, unfolding(crate::specs::Parts::sole))]
-pub fn one_fault(alloc: Global, classes: &Classes, arguments: &[Json]) -> Result<Value, ShapeFault>
-    ensures { Reads result (sole (fault_at classes.now) (items_view arguments.now)) }
+pub fn one_fault(
+    alloc: Global,
+    classes: &Classes,
+    arguments: Elements<'_>,
+) -> Result<Value, ShapeFault>
+    ensures { Reads result (sole (fault_at classes.now) (items_view arguments.entry)) }
 {
     let failure = failure(alloc, classes, one(arguments)?)?;
     Ok(Value::Fault(Boxed::new(alloc, failure)?))
@@ -53,40 +61,40 @@ pub fn one_fault(alloc: Global, classes: &Classes, arguments: &[Json]) -> Result
 
 /// An integer of 64 bits alone.
 #[tactic(auto, unfolding(crate::specs::Parts::sole))]
-pub fn one_integer(arguments: &[Json]) -> Result<i64, ShapeFault>
-    ensures { Reads result (sole integer_at (items_view arguments.now)) }
+pub fn one_integer(arguments: Elements<'_>) -> Result<i64, ShapeFault>
+    ensures { Reads result (sole integer_at (items_view arguments.entry)) }
 {
     integer(one(arguments)?)
 }
 
 /// An integer alone, from `low` to `high`.
 #[tactic(auto, unfolding(crate::specs::Parts::sole))]
-pub fn one_number(arguments: &[Json], low: u64, high: u64) -> Result<u64, ShapeFault>
-    ensures { Reads result (sole (number_at low high) (items_view arguments.now)) }
+pub fn one_number(arguments: Elements<'_>, low: u64, high: u64) -> Result<u64, ShapeFault>
+    ensures { Reads result (sole (number_at low high) (items_view arguments.entry)) }
 {
     number(one(arguments)?, low, high)
 }
 
 /// An integer alone, from `low` to `high`, which are of 32 bits.
 #[tactic(auto, unfolding(crate::specs::Parts::sole))]
-pub fn one_small(arguments: &[Json], low: u32, high: u32) -> Result<u32, ShapeFault>
-    ensures { Reads result (sole (number_at low high) (items_view arguments.now)) }
+pub fn one_small(arguments: Elements<'_>, low: u32, high: u32) -> Result<u32, ShapeFault>
+    ensures { Reads result (sole (number_at low high) (items_view arguments.entry)) }
 {
     small(one(arguments)?, low, high)
 }
 
 /// Places in lists alone.
 #[tactic(auto, unfolding(crate::specs::Parts::sole))]
-pub fn one_path(alloc: Global, arguments: &[Json]) -> Result<Items<u32>, ShapeFault>
-    ensures { Reads result (sole (list_at (number_at 0 MOST_PLACE)) (items_view arguments.now)) }
+pub fn one_path(alloc: Global, arguments: Elements<'_>) -> Result<Items<u32>, ShapeFault>
+    ensures { Reads result (sole (list_at (number_at 0 MOST_PLACE)) (items_view arguments.entry)) }
 {
     places_in(alloc, one(arguments)?)
 }
 
 /// Two texts.
 #[tactic(auto, unfolding(crate::specs::Parts::pair))]
-pub fn two_texts(alloc: Global, arguments: &[Json]) -> Result<(Text, Text), ShapeFault>
-    ensures { Reads result (pair text_at text_at (items_view arguments.now)) }
+pub fn two_texts(alloc: Global, arguments: Elements<'_>) -> Result<(Text, Text), ShapeFault>
+    ensures { Reads result (pair text_at text_at (items_view arguments.entry)) }
 {
     let (first, second) = two(arguments)?;
     let first = text(alloc, first)?;
@@ -99,9 +107,9 @@ pub fn two_texts(alloc: Global, arguments: &[Json]) -> Result<(Text, Text), Shap
 pub fn named_value(
     alloc: Global,
     classes: &Classes,
-    arguments: &[Json],
+    arguments: Elements<'_>,
 ) -> Result<(Text, Value), ShapeFault>
-    ensures { Reads result (pair text_at (value_at classes.now) (items_view arguments.now)) }
+    ensures { Reads result (pair text_at (value_at classes.now) (items_view arguments.entry)) }
 {
     let (name, json) = two(arguments)?;
     let name = text(alloc, name)?;
@@ -111,8 +119,8 @@ pub fn named_value(
 
 /// A name, and a number of places.
 #[tactic(auto, unfolding(crate::specs::Parts::pair))]
-pub fn named_places(alloc: Global, arguments: &[Json]) -> Result<(Text, u32), ShapeFault>
-    ensures { Reads result (pair text_at (number_at 1 MOST_PLACES) (items_view arguments.now)) }
+pub fn named_places(alloc: Global, arguments: Elements<'_>) -> Result<(Text, u32), ShapeFault>
+    ensures { Reads result (pair text_at (number_at 1 MOST_PLACES) (items_view arguments.entry)) }
 {
     let (name, json) = two(arguments)?;
     let name = text(alloc, name)?;
@@ -122,8 +130,8 @@ pub fn named_places(alloc: Global, arguments: &[Json]) -> Result<(Text, u32), Sh
 
 /// A name, and a delay.
 #[tactic(auto, unfolding(crate::specs::Parts::pair))]
-pub fn named_delay(alloc: Global, arguments: &[Json]) -> Result<(Text, u64), ShapeFault>
-    ensures { Reads result (pair text_at (number_at 0 MOST_DELAY) (items_view arguments.now)) }
+pub fn named_delay(alloc: Global, arguments: Elements<'_>) -> Result<(Text, u64), ShapeFault>
+    ensures { Reads result (pair text_at (number_at 0 MOST_DELAY) (items_view arguments.entry)) }
 {
     let (name, json) = two(arguments)?;
     let name = text(alloc, name)?;
@@ -136,9 +144,9 @@ pub fn named_delay(alloc: Global, arguments: &[Json]) -> Result<(Text, u64), Sha
 pub fn class_and_message(
     alloc: Global,
     classes: &Classes,
-    arguments: &[Json],
+    arguments: Elements<'_>,
 ) -> Result<(ClassId, Text), ShapeFault>
-    ensures { Reads result (pair (class_at classes.now) text_at (items_view arguments.now)) }
+    ensures { Reads result (pair (class_at classes.now) text_at (items_view arguments.entry)) }
 {
     let (name, message) = two(arguments)?;
     let class = class(classes, name)?;
@@ -151,11 +159,11 @@ pub fn class_and_message(
 pub fn classes_and_value(
     alloc: Global,
     classes: &Classes,
-    arguments: &[Json],
+    arguments: Elements<'_>,
 ) -> Result<(Items<ClassId>, Value), ShapeFault>
     ensures { Reads result
         (pair (list_at (class_at classes.now)) (value_at classes.now)
-        (items_view arguments.now)) }
+        (items_view arguments.entry)) }
 {
     let (names, json) = two(arguments)?;
     let listed = classes_in(alloc, classes, names)?;
@@ -168,10 +176,10 @@ pub fn classes_and_value(
 pub fn named_failure(
     alloc: Global,
     classes: &Classes,
-    arguments: &[Json],
+    arguments: Elements<'_>,
 ) -> Result<(Text, ClassId, Text), ShapeFault>
     ensures { Reads result
-        (triple text_at (class_at classes.now) text_at (items_view arguments.now)) }
+        (triple text_at (class_at classes.now) text_at (items_view arguments.entry)) }
 {
     let (name, class_name, message) = three(arguments)?;
     let name = text(alloc, name)?;
@@ -184,10 +192,10 @@ pub fn named_failure(
 #[tactic(auto, unfolding(crate::specs::Parts::triple))]
 pub fn named_list(
     alloc: Global,
-    arguments: &[Json],
+    arguments: Elements<'_>,
 ) -> Result<(Text, Items<Text>, Items<ListFlag>), ShapeFault>
     ensures { Reads result (triple text_at (list_at text_at) (list_at list_flag_at)
-        (items_view arguments.now)) }
+        (items_view arguments.entry)) }
 {
     let (name, children, flags) = three(arguments)?;
     let name = text(alloc, name)?;
@@ -200,10 +208,10 @@ pub fn named_list(
 #[tactic(auto, unfolding(crate::specs::Parts::triple))]
 pub fn named_gathering(
     alloc: Global,
-    arguments: &[Json],
+    arguments: Elements<'_>,
 ) -> Result<(Text, Items<Text>, Items<GatherFlag>), ShapeFault>
     ensures { Reads result (triple text_at (list_at text_at) (list_at gather_flag_at)
-        (items_view arguments.now)) }
+        (items_view arguments.entry)) }
 {
     let (name, children, flags) = three(arguments)?;
     let name = text(alloc, name)?;
@@ -216,9 +224,9 @@ pub fn named_gathering(
 #[tactic(auto, unfolding(crate::specs::Parts::triple))]
 pub fn named_bounds(
     alloc: Global,
-    arguments: &[Json],
+    arguments: Elements<'_>,
 ) -> Result<(Text, Option<u32>, Option<u32>), ShapeFault>
-    ensures { Reads result (triple text_at bound_at bound_at (items_view arguments.now)) }
+    ensures { Reads result (triple text_at bound_at bound_at (items_view arguments.entry)) }
 {
     let (name, size, backlog) = three(arguments)?;
     let name = text(alloc, name)?;

@@ -1,6 +1,6 @@
 ghost use Rattle.std.specs.Prelude.{◌≡◌, ◌≤◌, map, option_map, bytes_eq, IfOk};
 ghost use Rattle.std.specs.List.{list_any};
-ghost use Rattle.serde_json.specs.View.{view, items_view, members_view};
+ghost use Rattle.dv_document.specs.View.{view, items_view, members_view};
 ghost use Rattle.serde_json.specs.Find.{as_array, as_bool};
 ghost use Rattle.dv_script.specs.declared.limits.TheConstants.{MOST_PLACE};
 ghost use Rattle.dv_forms.specs.Forms.{has_only, is_comment};
@@ -11,35 +11,36 @@ ghost use Rattle.dv_forms.specs.Parts.{list_at, call_at, none, first, if_any, on
 ghost use Rattle.dv_forms.specs.Parts.{two_or_three, three, four, five, fields_at};
 
 use crate::shape_fault::ShapeFault;
+use dv_document::places::{Elements, Json, Members};
+use dv_document::value::Kind;
 use dv_script::action::{GatherFlag, ListFlag};
 use dv_script::limits::{MOST_PLACE, MOST_PLACES};
 use dv_value::class_id::ClassId;
 use dv_value::classes::Classes;
 use dv_value::items::Items;
 use dv_value::text::Text;
-use serde_json::{Map, Value as Json};
 use std::alloc::Global;
 
 /// A text.
-pub fn text(alloc: Global, json: &Json) -> Result<Text, ShapeFault>
-    ensures { Reads result (text_at (view json.now)) }
+pub fn text(alloc: Global, json: Json<'_>) -> Result<Text, ShapeFault>
+    ensures { Reads result (text_at (view json.entry)) }
 {
-    let Json::String(text) = json else {
+    let Some(text) = json.as_str() else {
         return Err(ShapeFault::BadShape);
     };
-    Ok(Text::of(alloc, text.as_str())?)
+    Ok(Text::of(alloc, text)?)
 }
 
 /// An integer of 64 bits.
-pub fn integer(json: &Json) -> Result<i64, ShapeFault>
-    ensures { Reads result (integer_at (view json.now)) }
+pub fn integer(json: Json<'_>) -> Result<i64, ShapeFault>
+    ensures { Reads result (integer_at (view json.entry)) }
 {
     json.as_i64().ok_or(ShapeFault::BadShape)
 }
 
 /// An integer from `low` to `high`.
-pub fn number(json: &Json, low: u64, high: u64) -> Result<u64, ShapeFault>
-    ensures read { Reads result (number_at low high (view json.now)) }
+pub fn number(json: Json<'_>, low: u64, high: u64) -> Result<u64, ShapeFault>
+    ensures read { Reads result (number_at low high (view json.entry)) }
     ensures most { IfOk result (λ n. n ≤ high) }
 {
     match json.as_u64() {
@@ -53,78 +54,81 @@ pub fn number(json: &Json, low: u64, high: u64) -> Result<u64, ShapeFault>
 }
 
 /// An integer from `low` to `high`, which are of 32 bits.
-pub fn small(json: &Json, low: u32, high: u32) -> Result<u32, ShapeFault>
-    ensures { Reads result (number_at low high (view json.now)) }
+pub fn small(json: Json<'_>, low: u32, high: u32) -> Result<u32, ShapeFault>
+    ensures { Reads result (number_at low high (view json.entry)) }
 {
     Ok(number(json, u64::from(low), u64::from(high))? as u32)
 }
 
 /// A boolean.
-pub fn boolean(json: &Json) -> Result<bool, ShapeFault>
-    ensures { Reads result (as_bool (view json.now)) }
+pub fn boolean(json: Json<'_>) -> Result<bool, ShapeFault>
+    ensures { Reads result (as_bool (view json.entry)) }
 {
     json.as_bool().ok_or(ShapeFault::BadShape)
 }
 
 /// A bound of a queue, or none.
-pub fn bound(json: &Json) -> Result<Option<u32>, ShapeFault>
-    ensures { Reads result (bound_at (view json.now)) }
+pub fn bound(json: Json<'_>) -> Result<Option<u32>, ShapeFault>
+    ensures { Reads result (bound_at (view json.entry)) }
 {
-    match json {
-        Json::Null => Ok(None),
-        Json::Number(_) => Ok(Some(small(json, 0, MOST_PLACES)?)),
-        Json::Bool(_) | Json::String(_) | Json::Array(_) | Json::Object(_) => Err(
+    match json.kind() {
+        Kind::Null => Ok(None),
+        Kind::Number(_) => Ok(Some(small(json, 0, MOST_PLACES)?)),
+        Kind::Bool(_) | Kind::String(_) | Kind::Array(_) | Kind::Object(_) => Err(
             ShapeFault::BadShape,
         ),
     }
 }
 
 /// The place of a class, or the place past the last where the table has none of this name.
-pub fn class(classes: &Classes, json: &Json) -> Result<ClassId, ShapeFault>
-    ensures { Reads result (class_at classes.now (view json.now)) }
+pub fn class(classes: &Classes, json: Json<'_>) -> Result<ClassId, ShapeFault>
+    ensures { Reads result (class_at classes.now (view json.entry)) }
 {
-    let Json::String(name) = json else {
+    let Some(name) = json.as_str() else {
         return Err(ShapeFault::BadShape);
     };
     let past_the_last = ClassId::new(classes.count());
-    Ok(classes.find(name.as_str()).unwrap_or(past_the_last))
+    Ok(classes.find(name).unwrap_or(past_the_last))
 }
 
 /// An array of classes.
 pub fn classes_in(
     alloc: Global,
     classes: &Classes,
-    json: &Json,
+    json: Json<'_>,
 ) -> Result<Items<ClassId>, ShapeFault>
-    ensures { Reads result (list_at (class_at classes.now) (view json.now)) }
+    ensures { Reads result (list_at (class_at classes.now) (view json.entry)) }
 {
     let items = array(json)?;
     let mut listed = Items::new(alloc);
-    for item in items {
+    let mut rest = items;
+    while let Some(item) = rest.next() {
         listed.push(class(classes, item)?)?;
     }
     Ok(listed)
 }
 
 /// An array of texts.
-pub fn texts_in(alloc: Global, json: &Json) -> Result<Items<Text>, ShapeFault>
-    ensures { Reads result (list_at text_at (view json.now)) }
+pub fn texts_in(alloc: Global, json: Json<'_>) -> Result<Items<Text>, ShapeFault>
+    ensures { Reads result (list_at text_at (view json.entry)) }
 {
     let items = array(json)?;
     let mut texts = Items::new(alloc);
-    for item in items {
+    let mut rest = items;
+    while let Some(item) = rest.next() {
         texts.push(text(alloc, item)?)?;
     }
     Ok(texts)
 }
 
 /// An array of places in lists.
-pub fn places_in(alloc: Global, json: &Json) -> Result<Items<u32>, ShapeFault>
-    ensures { Reads result (list_at (number_at 0 MOST_PLACE) (view json.now)) }
+pub fn places_in(alloc: Global, json: Json<'_>) -> Result<Items<u32>, ShapeFault>
+    ensures { Reads result (list_at (number_at 0 MOST_PLACE) (view json.entry)) }
 {
     let items = array(json)?;
     let mut places = Items::new(alloc);
-    for item in items {
+    let mut rest = items;
+    while let Some(item) = rest.next() {
         places.push(small(item, 0, MOST_PLACE)?)?;
     }
     Ok(places)
@@ -141,22 +145,23 @@ fn list_flag_named(word: &str) -> Option<ListFlag>
     }
 }
 
-fn list_flag(json: &Json) -> Result<ListFlag, ShapeFault>
-    ensures { Reads result (list_flag_at (view json.now)) }
+fn list_flag(json: Json<'_>) -> Result<ListFlag, ShapeFault>
+    ensures { Reads result (list_flag_at (view json.entry)) }
 {
-    let Json::String(word) = json else {
+    let Some(word) = json.as_str() else {
         return Err(ShapeFault::BadShape);
     };
-    list_flag_named(word.as_str()).ok_or(ShapeFault::BadShape)
+    list_flag_named(word).ok_or(ShapeFault::BadShape)
 }
 
 /// An array of flags of a list.
-pub fn list_flags_in(alloc: Global, json: &Json) -> Result<Items<ListFlag>, ShapeFault>
-    ensures { Reads result (list_at list_flag_at (view json.now)) }
+pub fn list_flags_in(alloc: Global, json: Json<'_>) -> Result<Items<ListFlag>, ShapeFault>
+    ensures { Reads result (list_at list_flag_at (view json.entry)) }
 {
     let items = array(json)?;
     let mut flags = Items::new(alloc);
-    for item in items {
+    let mut rest = items;
+    while let Some(item) = rest.next() {
         flags.push(list_flag(item)?)?;
     }
     Ok(flags)
@@ -171,56 +176,57 @@ fn gather_flag_named(word: &str) -> Option<GatherFlag>
     }
 }
 
-fn gather_flag(json: &Json) -> Result<GatherFlag, ShapeFault>
-    ensures { Reads result (gather_flag_at (view json.now)) }
+fn gather_flag(json: Json<'_>) -> Result<GatherFlag, ShapeFault>
+    ensures { Reads result (gather_flag_at (view json.entry)) }
 {
-    let Json::String(word) = json else {
+    let Some(word) = json.as_str() else {
         return Err(ShapeFault::BadShape);
     };
-    gather_flag_named(word.as_str()).ok_or(ShapeFault::BadShape)
+    gather_flag_named(word).ok_or(ShapeFault::BadShape)
 }
 
 /// An array of flags of what is gathered.
-pub fn gather_flags_in(alloc: Global, json: &Json) -> Result<Items<GatherFlag>, ShapeFault>
-    ensures { Reads result (list_at gather_flag_at (view json.now)) }
+pub fn gather_flags_in(alloc: Global, json: Json<'_>) -> Result<Items<GatherFlag>, ShapeFault>
+    ensures { Reads result (list_at gather_flag_at (view json.entry)) }
 {
     let items = array(json)?;
     let mut flags = Items::new(alloc);
-    for item in items {
+    let mut rest = items;
+    while let Some(item) = rest.next() {
         flags.push(gather_flag(item)?)?;
     }
     Ok(flags)
 }
 
 /// The items of an array.
-pub fn array(json: &Json) -> Result<&[Json], ShapeFault>
-    ensures { Gives (λ items. items_view items.now) result (as_array (view json.now)) }
+pub fn array<'t>(json: Json<'t>) -> Result<Elements<'t>, ShapeFault>
+    ensures { Gives (λ items. items_view items) result (as_array (view json.entry)) }
 {
-    let Json::Array(items) = json else {
+    let Some(items) = json.as_array() else {
         return Err(ShapeFault::BadShape);
     };
-    Ok(items.as_slice())
+    Ok(items)
 }
 
 /// A word, and what comes with it.
 #[tactic(auto, unfolding(crate::specs::Parts::call_at))]
-pub fn call(json: &Json) -> Result<(&str, &[Json]), ShapeFault>
-    ensures { Gives (λ call. (call.0.now, items_view call.1.now)) result (call_at (view json.now)) }
+pub fn call<'t>(json: Json<'t>) -> Result<(&'t str, Elements<'t>), ShapeFault>
+    ensures { Gives (λ call. (call.0.now, items_view call.1)) result (call_at (view json.entry)) }
 {
     let parts = array(json)?;
     let Some((first, arguments)) = parts.split_first() else {
         return Err(ShapeFault::BadShape);
     };
-    let Json::String(word) = first else {
+    let Some(word) = first.as_str() else {
         return Err(ShapeFault::BadShape);
     };
-    Ok((word.as_str(), arguments))
+    Ok((word, arguments))
 }
 
 /// No argument.
 #[tactic(auto, unfolding(crate::specs::Parts::none))]
-pub fn none(items: &[Json]) -> Result<(), ShapeFault>
-    ensures { Gives (λ _. tt) result (none (items_view items.now)) }
+pub fn none(items: Elements<'_>) -> Result<(), ShapeFault>
+    ensures { Gives (λ _. tt) result (none (items_view items.entry)) }
 {
     match items.split_first() {
         None => Ok(()),
@@ -230,9 +236,9 @@ pub fn none(items: &[Json]) -> Result<(), ShapeFault>
 
 /// An argument, and the rest.
 #[tactic(auto, unfolding(crate::specs::Parts::first))]
-fn first(items: &[Json]) -> Result<(&Json, &[Json]), ShapeFault>
-    ensures { Gives (λ p. (view p.0.now, items_view p.1.now)) result
-        (first (items_view items.now)) }
+fn first<'t>(items: Elements<'t>) -> Result<(Json<'t>, Elements<'t>), ShapeFault>
+    ensures { Gives (λ p. (view p.0, items_view p.1)) result
+        (first (items_view items.entry)) }
 {
     match items.split_first() {
         None => Err(ShapeFault::BadShape),
@@ -242,9 +248,9 @@ fn first(items: &[Json]) -> Result<(&Json, &[Json]), ShapeFault>
 
 /// An argument, or none.
 #[tactic(auto, unfolding(crate::specs::Parts::if_any))]
-fn if_any(items: &[Json]) -> Result<Option<&Json>, ShapeFault>
-    ensures { Gives (λ o. option_map (λ json. view json.now) o) result
-        (if_any (items_view items.now)) }
+fn if_any<'t>(items: Elements<'t>) -> Result<Option<Json<'t>>, ShapeFault>
+    ensures { Gives (λ o. option_map (λ json. view json) o) result
+        (if_any (items_view items.entry)) }
 {
     match items.split_first() {
         None => Ok(None),
@@ -257,8 +263,8 @@ fn if_any(items: &[Json]) -> Result<Option<&Json>, ShapeFault>
 
 /// One argument.
 #[tactic(auto, unfolding(crate::specs::Parts::one))]
-pub fn one(items: &[Json]) -> Result<&Json, ShapeFault>
-    ensures { Gives (λ json. view json.now) result (one (items_view items.now)) }
+pub fn one<'t>(items: Elements<'t>) -> Result<Json<'t>, ShapeFault>
+    ensures { Gives (λ json. view json) result (one (items_view items.entry)) }
 {
     let (json, rest) = first(items)?;
     none(rest)?;
@@ -267,9 +273,9 @@ pub fn one(items: &[Json]) -> Result<&Json, ShapeFault>
 
 /// One argument or two.
 #[tactic(auto, unfolding(crate::specs::Parts::one_or_two))]
-pub fn one_or_two(items: &[Json]) -> Result<(&Json, Option<&Json>), ShapeFault>
-    ensures { Gives (λ p. (view p.0.now, option_map (λ json. view json.now) p.1)) result
-        (one_or_two (items_view items.now)) }
+pub fn one_or_two<'t>(items: Elements<'t>) -> Result<(Json<'t>, Option<Json<'t>>), ShapeFault>
+    ensures { Gives (λ p. (view p.0, option_map (λ json. view json) p.1)) result
+        (one_or_two (items_view items.entry)) }
 {
     let (json, rest) = first(items)?;
     let last = if_any(rest)?;
@@ -278,10 +284,12 @@ pub fn one_or_two(items: &[Json]) -> Result<(&Json, Option<&Json>), ShapeFault>
 
 /// Two arguments, and a third that may be left out.
 #[tactic(auto, unfolding(crate::specs::Parts::two_or_three))]
-pub fn two_or_three(items: &[Json]) -> Result<(&Json, &Json, Option<&Json>), ShapeFault>
+pub fn two_or_three<'t>(
+    items: Elements<'t>,
+) -> Result<(Json<'t>, Json<'t>, Option<Json<'t>>), ShapeFault>
     ensures { Gives
-        (λ p. (view p.0.now, view p.1.now, option_map (λ json. view json.now) p.2)) result
-        (two_or_three (items_view items.now)) }
+        (λ p. (view p.0, view p.1, option_map (λ json. view json) p.2)) result
+        (two_or_three (items_view items.entry)) }
 {
     let (json, rest) = first(items)?;
     let (second, rest) = first(rest)?;
@@ -291,8 +299,8 @@ pub fn two_or_three(items: &[Json]) -> Result<(&Json, &Json, Option<&Json>), Sha
 
 /// Two arguments.
 #[tactic(auto, unfolding(crate::specs::Parts::two))]
-pub fn two(items: &[Json]) -> Result<(&Json, &Json), ShapeFault>
-    ensures { Gives (λ p. (view p.0.now, view p.1.now)) result (two (items_view items.now)) }
+pub fn two<'t>(items: Elements<'t>) -> Result<(Json<'t>, Json<'t>), ShapeFault>
+    ensures { Gives (λ p. (view p.0, view p.1)) result (two (items_view items.entry)) }
 {
     let (json, rest) = first(items)?;
     let last = one(rest)?;
@@ -301,9 +309,9 @@ pub fn two(items: &[Json]) -> Result<(&Json, &Json), ShapeFault>
 
 /// Three arguments.
 #[tactic(auto, unfolding(crate::specs::Parts::three))]
-pub fn three(items: &[Json]) -> Result<(&Json, &Json, &Json), ShapeFault>
-    ensures { Gives (λ p. (view p.0.now, view p.1.now, view p.2.now)) result
-        (three (items_view items.now)) }
+pub fn three<'t>(items: Elements<'t>) -> Result<(Json<'t>, Json<'t>, Json<'t>), ShapeFault>
+    ensures { Gives (λ p. (view p.0, view p.1, view p.2)) result
+        (three (items_view items.entry)) }
 {
     let (json, rest) = first(items)?;
     let (next, last) = two(rest)?;
@@ -312,9 +320,9 @@ pub fn three(items: &[Json]) -> Result<(&Json, &Json, &Json), ShapeFault>
 
 /// Four arguments.
 #[tactic(auto, unfolding(crate::specs::Parts::four))]
-pub fn four(items: &[Json]) -> Result<(&Json, &Json, &Json, &Json), ShapeFault>
-    ensures { Gives (λ p. (view p.0.now, view p.1.now, view p.2.now, view p.3.now)) result
-        (four (items_view items.now)) }
+pub fn four<'t>(items: Elements<'t>) -> Result<(Json<'t>, Json<'t>, Json<'t>, Json<'t>), ShapeFault>
+    ensures { Gives (λ p. (view p.0, view p.1, view p.2, view p.3)) result
+        (four (items_view items.entry)) }
 {
     let (json, rest) = first(items)?;
     let (second, third, last) = three(rest)?;
@@ -323,9 +331,11 @@ pub fn four(items: &[Json]) -> Result<(&Json, &Json, &Json, &Json), ShapeFault>
 
 /// Five arguments.
 #[tactic(auto, unfolding(crate::specs::Parts::five))]
-pub fn five(items: &[Json]) -> Result<(&Json, &Json, &Json, &Json, &Json), ShapeFault>
-    ensures { Gives (λ p. (view p.0.now, view p.1.now, view p.2.now, view p.3.now, view p.4.now))
-        result (five (items_view items.now)) }
+pub fn five<'t>(
+    items: Elements<'t>,
+) -> Result<(Json<'t>, Json<'t>, Json<'t>, Json<'t>, Json<'t>), ShapeFault>
+    ensures { Gives (λ p. (view p.0, view p.1, view p.2, view p.3, view p.4))
+        result (five (items_view items.entry)) }
 {
     let (json, rest) = first(items)?;
     let (second, rest) = first(rest)?;
@@ -335,10 +345,10 @@ pub fn five(items: &[Json]) -> Result<(&Json, &Json, &Json, &Json, &Json), Shape
 
 /// An object with no other keys than these, but maybe a comment, which is a text.
 #[tactic(auto, unfolding(crate::specs::Parts::fields_at))]
-pub fn fields(json: &Json, keys: &[&str]) -> Result<(), ShapeFault>
-    ensures { Gives (λ _. tt) result (fields_at (map (λ k. k.now) keys.now) (view json.now)) }
+pub fn fields(json: Json<'_>, keys: &[&str]) -> Result<(), ShapeFault>
+    ensures { Gives (λ _. tt) result (fields_at (map (λ k. k.now) keys.now) (view json.entry)) }
 {
-    let Json::Object(members) = json else {
+    let Some(members) = json.as_object() else {
         return Err(ShapeFault::BadShape);
     };
     if has_only(members, keys) && is_comment(json.get("comment")) {
@@ -348,20 +358,21 @@ pub fn fields(json: &Json, keys: &[&str]) -> Result<(), ShapeFault>
     }
 }
 
-#[tactic(auto, unfolding(crate::specs::Forms::has_only))]
-fn has_only(members: &Map<String, Json>, keys: &[&str]) -> bool
-    ensures { result ≡ has_only (map (λ k. k.now) keys.now) (members_view members.now.entries) }
+#[tactic(auto, unfolding(crate::specs::Forms::has_only), using(crate::proofs::Members::has_only_put))]
+fn has_only(members: Members<'_>, keys: &[&str]) -> bool
+    ensures { result ≡ has_only (map (λ k. k.now) keys.now) (members_view members.entry) }
 {
-    for (key, _) in members.iter() {
-        if !is_among(key.as_str(), keys) && key.as_str() != "comment" {
+    let mut rest = members;
+    while let Some((key, _)) = rest.next() {
+        if !is_among(key, keys) && key != "comment" {
             return false;
         }
     }
     true
 }
 
-fn is_comment(json: Option<&Json>) -> bool
-    ensures { result ≡ is_comment (option_map (λ d. view d.now) json.entry) }
+fn is_comment(json: Option<Json<'_>>) -> bool
+    ensures { result ≡ is_comment (option_map (λ d. view d) json.entry) }
 {
     match json {
         Some(json) => json.as_str().is_some(),

@@ -1,29 +1,29 @@
 //! Events that repeat.
 
 ghost use Rattle.std.specs.Prelude.{◌≡◌, option_map};
-ghost use Rattle.serde_json.specs.View.{view, items_view};
+ghost use Rattle.dv_document.specs.View.{view, items_view};
 ghost use Rattle.dv_forms.specs.Parts.{number_at};
 ghost use Rattle.dv_forms.specs.Repeat.{repeat_at, times_at, with_items};
 ghost use Rattle.dv_forms.specs.declared.limits.TheConstants.{MOST_TIMES};
 
 use crate::limits::MOST_TIMES;
-use serde_json::Value as Json;
+use dv_document::places::{Elements, Json};
 
 /// How often the events of a repeat happen, and the array of these, where this is a repeat.
 #[tactic(auto, unfolding(crate::specs::Repeat::repeat_at))]
-pub fn repeat_of(json: &Json) -> Option<(u64, &[Json])>
-    ensures { option_map (λ r. (r.0, items_view r.1.now)) result ≡ repeat_at (view json.now) }
+pub fn repeat_of<'t>(json: Json<'t>) -> Option<(u64, Elements<'t>)>
+    ensures { option_map (λ r. (r.0, items_view r.1)) result ≡ repeat_at (view json.entry) }
 {
-    let Json::Array(parts) = json else {
+    let Some(parts) = json.as_array() else {
         return None;
     };
-    let Some((first, arguments)) = parts.as_slice().split_first() else {
+    let Some((first, arguments)) = parts.split_first() else {
         return None;
     };
-    let Json::String(word) = first else {
+    let Some(word) = first.as_str() else {
         return None;
     };
-    if word.as_str() == "repeat" {
+    if word == "repeat" {
         times_of(arguments)
     } else {
         None
@@ -31,9 +31,9 @@ pub fn repeat_of(json: &Json) -> Option<(u64, &[Json])>
 }
 
 #[tactic(auto, unfolding(crate::specs::Repeat::times_at))]
-fn times_of(arguments: &[Json]) -> Option<(u64, &[Json])>
-    ensures { option_map (λ r. (r.0, items_view r.1.now)) result
-        ≡ times_at (items_view arguments.now) }
+fn times_of<'t>(arguments: Elements<'t>) -> Option<(u64, Elements<'t>)>
+    ensures { option_map (λ r. (r.0, items_view r.1)) result
+        ≡ times_at (items_view arguments.entry) }
 {
     let Some((times, rest)) = arguments.split_first() else {
         return None;
@@ -41,18 +41,18 @@ fn times_of(arguments: &[Json]) -> Option<(u64, &[Json])>
     let Some((events, rest)) = rest.split_first() else {
         return None;
     };
-    let Json::Array(events) = events else {
+    let Some(events) = events.as_array() else {
         return None;
     };
     match rest.split_first() {
         Some(_) => None,
-        None => with_times(times, events.as_slice()),
+        None => with_times(times, events),
     }
 }
 
-fn with_times<'j>(times: &Json, events: &'j [Json]) -> Option<(u64, &'j [Json])>
-    ensures { option_map (λ r. (r.0, items_view r.1.now)) result
-        ≡ with_items (items_view events.now) (number_at 0 MOST_TIMES (view times.now)) }
+fn with_times<'t>(times: Json<'_>, events: Elements<'t>) -> Option<(u64, Elements<'t>)>
+    ensures { option_map (λ r. (r.0, items_view r.1)) result
+        ≡ with_items (items_view events.entry) (number_at 0 MOST_TIMES (view times.entry)) }
 {
     match times.as_u64() {
         Some(n) => if n <= MOST_TIMES {

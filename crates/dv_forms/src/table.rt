@@ -1,5 +1,5 @@
 ghost use Rattle.std.specs.Prelude.{◌≡◌, ◌+◌, ◌<◌, ◌^◌, [], length, Some, option_map, IfOk, OnOk};
-ghost use Rattle.serde_json.specs.View.{view, items_view};
+ghost use Rattle.dv_document.specs.View.{view, items_view};
 ghost use Rattle.dv_forms.specs.Answer.{Reads};
 ghost use Rattle.dv_forms.specs.Parts.{declaration_at, each, list_at, field, table_for};
 ghost use Rattle.dv_forms.specs.Table.{can_declare, first_classes, with_declared};
@@ -9,17 +9,17 @@ use crate::declaration::Declaration;
 use crate::leaf::array;
 use crate::shape_fault::ShapeFault;
 use crate::versions::COOPERATORS_SINCE;
+use dv_document::places::{Elements, Json};
 use dv_script::limits::MOST_CLASSES;
 use dv_value::class_fault::ClassFault;
 use dv_value::classes::Classes;
 use dv_value::items::Items;
-use serde_json::Value as Json;
 use std::alloc::{AllocError, Global};
 
 /// The classes that a script declares, which it may leave out.
-pub fn declarations(alloc: Global, json: Option<&Json>) -> Result<Items<Declaration>, ShapeFault>
+pub fn declarations(alloc: Global, json: Option<Json<'_>>) -> Result<Items<Declaration>, ShapeFault>
     ensures { Reads result (field [] (list_at declaration_at)
-        (option_map (λ d. view d.now) json.entry)) }
+        (option_map (λ d. view d) json.entry)) }
 {
     match json {
         None => Ok(Items::new(alloc)),
@@ -27,19 +27,20 @@ pub fn declarations(alloc: Global, json: Option<&Json>) -> Result<Items<Declarat
     }
 }
 
-fn each_declaration(alloc: Global, items: &[Json]) -> Result<Items<Declaration>, ShapeFault>
-    ensures { Reads result (each declaration_at (items_view items.now)) }
+fn each_declaration(alloc: Global, items: Elements<'_>) -> Result<Items<Declaration>, ShapeFault>
+    ensures { Reads result (each declaration_at (items_view items.entry)) }
 {
     let mut declarations = Items::new(alloc);
-    for item in items {
+    let mut rest = items;
+    while let Some(item) = rest.next() {
         declarations.push(declaration(alloc, item)?)?;
     }
     Ok(declarations)
 }
 
 #[tactic(auto, unfolding(crate::specs::Parts::declaration_at))]
-fn declaration(alloc: Global, json: &Json) -> Result<Declaration, ShapeFault>
-    ensures { Reads result (declaration_at (view json.now)) }
+fn declaration(alloc: Global, json: Json<'_>) -> Result<Declaration, ShapeFault>
+    ensures { Reads result (declaration_at (view json.entry)) }
 {
     let (name, parent) = two_texts(alloc, array(json)?)?;
     Ok(Declaration { name, parent })

@@ -2,15 +2,16 @@
 
 ghost use Rattle.std.specs.Prelude.{◌≡◌, map};
 ghost use Rattle.dv_forms.specs.Wants.{item_want, key_want, keys_in, script_want, cooperator_want};
-ghost use Rattle.serde_json.specs.View.{view};
+ghost use Rattle.dv_document.specs.View.{view};
 ghost use Rattle.dv_forms.specs.Wants.{body_want, failure_want, member_want, pair_wants};
 
 use crate::failure::MOST_INDEX;
 use crate::limits::most_limit;
 use crate::versions::{BODIES_SINCE, COOPERATORS_SINCE, FIRST_VERSION, LAST_VERSION};
 use dv_clock::limits::MOST_DELAY;
+use dv_document::places::Json;
+use dv_document::value::Kind;
 use dv_script::limits::{MOST_PLACE, MOST_UNITS, MOST_WORKERS};
-use serde_json::Value as Json;
 
 /// What has a name.
 #[derive(Clone, Copy, Drop)]
@@ -243,13 +244,13 @@ fn failure_want(key: &str) -> Want
 
 /// What the place of this member of an array of a value asks for: a failure where an object stands,
 /// and else a value.
-pub fn member_want(json: &Json) -> Want
-    ensures { result ≡ member_want (view json.now) }
+pub fn member_want(json: Json<'_>) -> Want
+    ensures { result ≡ member_want (view json.entry) }
 {
-    match json {
-        Json::Null | Json::Bool(_) | Json::Number(_) | Json::String(_) | Json::Array(_) =>
+    match json.kind() {
+        Kind::Null | Kind::Bool(_) | Kind::Number(_) | Kind::String(_) | Kind::Array(_) =>
             Want::Value,
-        Json::Object(_) => Want::Keyed(Keyed::Failure),
+        Kind::Object(_) => Want::Keyed(Keyed::Failure),
     }
 }
 

@@ -19,8 +19,11 @@ use Rattle.dv_forms.specs.Wants.{item_want, key_want, keys_in, member_want, pair
 use Rattle.dv_forms.specs.Words.{wants_of}
 use Rattle.dv_questions.specs.Questions.{Asked, words, names, classes, pools, bodies, every, stands, is_named}
 use Rattle.dv_questions.specs.Questions.{is_known, is_pooled, is_declared, is_scheduled, cooperators}
-use Rattle.dv_questions.specs.Asking.{count, if_there, each_item, each_member, one_for_one, arguments_suit, word_suits}
+use Rattle.dv_document.specs.View.{count}
+use Rattle.dv_questions.specs.Asking.{if_there, each_item, each_member, one_for_one, arguments_suit, word_suits}
+use Rattle.dv_document.specs.View.{count}
 use Rattle.dv_questions.specs.Asking.{call_suits}
+use Rattle.dv_document.specs.View.{count}
 use Rattle.dv_questions.specs.Asking.{keys_suit, name_suits, in_parts, all_suit}
 
 both : {a b : Bool} → a ≡ true → b ≡ true → (a && b) ≡ true

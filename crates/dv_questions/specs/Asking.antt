@@ -2,6 +2,7 @@
 use Rattle.std.specs.Prelude.{ℕ, zero, suc, Bool, true, false, ◌&&◌, List, [], ◌∷◌, Option, Some, None}
 use Rattle.serde_json.specs.Data.{Data, null, boolean, number, string, array, object, Items, no_items, item}
 use Rattle.serde_json.specs.Find.{as_str, as_array, get}
+use Rattle.dv_document.specs.View.{count}
 use Rattle.dv_forms.specs.declared.want.Want.{Want}
 use Rattle.dv_forms.specs.declared.want.Want.TheVariants as want
 use Rattle.dv_forms.specs.declared.want.CallKind.{CallKind}
@@ -12,11 +13,6 @@ use Rattle.dv_forms.specs.declared.want.Object.TheVariants as object
 use Rattle.dv_forms.specs.Wants.{item_want, key_want, keys_in, member_want, pair_wants}
 use Rattle.dv_forms.specs.Words.{wants_of}
 use Rattle.dv_questions.specs.Questions.{Asked}
-
--- how many items there are
-abbrev pub count : Items → ℕ
-count no_items = 0
-count (item d ds) = suc (count ds)
 
 -- of what may be absent: where it is there
 abbrev pub if_there : {X : Type 0} → (X → Bool) → Option X → Bool

@@ -1,22 +1,23 @@
 //! Asks a question of each text and each object of a JSON value, by the table of words.
 
-ghost use Rattle.std.specs.Prelude.{◌≡◌, ◌≤◌, ℕ, true, option_and_then};
-ghost use Rattle.serde_json.specs.View.{view, items_view};
+ghost use Rattle.std.specs.Prelude.{◌≡◌, true};
+ghost use Rattle.dv_document.specs.View.{view, items_view};
 ghost use Rattle.serde_json.specs.Find.{as_array, as_str, get};
 ghost use Rattle.dv_forms.specs.Wants.{key_want, keys_in, member_want};
-ghost use Rattle.dv_forms.specs.Words.{may_stand};
 ghost use Rattle.dv_questions.specs.Asking.{all_suit, call_suits, each_item, each_member};
-ghost use Rattle.dv_questions.specs.Asking.{if_there, is_scalar, keys_suit, name_suits};
+ghost use Rattle.dv_forms.specs.declared.want.Want.TheVariants.{Keyed as in_want};
+ghost use Rattle.dv_questions.specs.Asking.{if_there, in_parts, is_scalar, keys_suit, name_suits};
 ghost use Rattle.dv_questions.specs.Asking.{one_for_one, word_suits};
 ghost use Rattle.dv_questions.specs.Questions.{asked_by};
 
 use crate::question::Question;
+use dv_document::places::{Elements, Json};
+use dv_document::value::Kind;
 use dv_forms::want::{CallKind, Keyed, Leaf, Object, Want, member_want};
 use dv_forms::words::form_of;
-use serde_json::Value as Json;
 
-fn leaf_suits(question: &Question<'_>, leaf: Leaf, json: &Json) -> bool
-    ensures { result ≡ if_there ((asked_by question.now).of_leaf leaf) (as_str (view json.now)) }
+fn leaf_suits(question: &Question<'_>, leaf: Leaf, json: Json<'_>) -> bool
+    ensures { result ≡ if_there ((asked_by question.now).of_leaf leaf) (as_str (view json.entry)) }
 {
     match json.as_str() {
         Some(name) => question.of_leaf(leaf, name),
@@ -24,8 +25,8 @@ fn leaf_suits(question: &Question<'_>, leaf: Leaf, json: &Json) -> bool
     }
 }
 
-fn first_suits(question: &Question<'_>, call: CallKind, json: &Json) -> bool
-    ensures { result ≡ if_there ((asked_by question.now).of_word call) (as_str (view json.now)) }
+fn first_suits(question: &Question<'_>, call: CallKind, json: Json<'_>) -> bool
+    ensures { result ≡ if_there ((asked_by question.now).of_word call) (as_str (view json.entry)) }
 {
     match json.as_str() {
         Some(word) => question.of_word(call, word),
@@ -43,9 +44,9 @@ fn name_suits(question: &Question<'_>, keyed: Keyed, name: &str) -> bool
     }
 }
 
-fn object_suits(question: &Question<'_>, keyed: Keyed, json: &Json) -> bool
+fn object_suits(question: &Question<'_>, keyed: Keyed, json: Json<'_>) -> bool
     ensures { result ≡ if_there (name_suits (asked_by question.now) keyed)
-        (as_str (view json.now)) }
+        (as_str (view json.entry)) }
 {
     match json.as_str() {
         Some(name) => name_suits(question, keyed, name),
@@ -57,8 +58,8 @@ fn object_suits(question: &Question<'_>, keyed: Keyed, json: &Json) -> bool
 /// for this. Below so many levels nothing is asked.
 #[cycle(ask)]
 #[tactic(auto, unfolding(crate::specs::Asking::all_suit))]
-pub fn all_suit(question: &Question<'_>, levels: u32, want: Want, json: &Json) -> bool
-    ensures { result ≡ all_suit (asked_by question.now) levels want (view json.now) }
+pub fn all_suit(question: &Question<'_>, levels: u32, want: Want, json: Json<'_>) -> bool
+    ensures { result ≡ all_suit (asked_by question.now) levels want (view json.entry) }
 {
     if levels == 0 {
         return true;
@@ -66,41 +67,42 @@ pub fn all_suit(question: &Question<'_>, levels: u32, want: Want, json: &Json) -
     match want {
         Want::Leaf(leaf) => leaf_suits(question, leaf, json),
         Want::Other(_) => true,
-        Want::Call(call) => match json {
-            Json::Array(parts) => call_suits(question, levels - 1, call, parts.as_slice()),
-            Json::Null | Json::Bool(_) | Json::Number(_) | Json::String(_) | Json::Object(_) =>
-                true,
+        Want::Call(call) => match json.as_array() {
+            Some(parts) => call_suits(question, levels - 1, call, parts),
+            None => true,
         },
-        Want::Pair(pair) => match json {
-            Json::Array(parts) => one_for_one(question, levels - 1, pair.wants(), parts.as_slice()),
-            Json::Null | Json::Bool(_) | Json::Number(_) | Json::String(_) | Json::Object(_) =>
-                true,
+        Want::Pair(pair) => match json.as_array() {
+            Some(parts) => one_for_one(question, levels - 1, pair.wants(), parts),
+            None => true,
         },
-        Want::Keyed(keyed) => {
-            question.of_object(keyed)
-                && (object_suits(question, keyed, json)
-                    && keys_suit(question, levels - 1, keyed, json))
-        }
-        Want::Array(item) => match json {
-            Json::Array(items) => { each_item(question, levels - 1, item.want(), items.as_slice()) }
-            Json::Null | Json::Bool(_) | Json::Number(_) | Json::String(_) | Json::Object(_) =>
-                true,
+        Want::Keyed(keyed) => keyed_suits(question, levels - 1, keyed, json),
+        Want::Array(item) => match json.as_array() {
+            Some(items) => each_item(question, levels - 1, item.want(), items),
+            None => true,
         },
         Want::Word(call) => first_suits(question, call, json),
-        Want::Value => match json {
-            Json::Array(items) => each_member(question, levels - 1, items.as_slice()),
-            Json::Null | Json::Bool(_) | Json::Number(_) | Json::String(_) | Json::Object(_) =>
-                true,
+        Want::Value => match json.as_array() {
+            Some(items) => each_member(question, levels - 1, items),
+            None => true,
         },
     }
 }
 
-fn is_scalar(json: &Json) -> bool
-    ensures { result ≡ is_scalar (view json.now) }
+#[cycle(ask)]
+fn keyed_suits(question: &Question<'_>, levels: u32, keyed: Keyed, json: Json<'_>) -> bool
+    ensures { result ≡ in_parts (asked_by question.now) (all_suit (asked_by question.now) levels)
+        (in_want keyed) (view json.entry) }
 {
-    match json {
-        Json::Null | Json::Bool(_) | Json::Number(_) | Json::String(_) => true,
-        Json::Array(_) | Json::Object(_) => false,
+    question.of_object(keyed)
+        && (object_suits(question, keyed, json) && keys_suit(question, levels, keyed, json))
+}
+
+fn is_scalar(json: Json<'_>) -> bool
+    ensures { result ≡ is_scalar (view json.entry) }
+{
+    match json.kind() {
+        Kind::Null | Kind::Bool(_) | Kind::Number(_) | Kind::String(_) => true,
+        Kind::Array(_) | Kind::Object(_) => false,
     }
 }
 
@@ -108,9 +110,9 @@ fn is_scalar(json: &Json) -> bool
 /// that is asked of.
 #[cycle(ask)]
 #[tactic(auto, using(crate::proofs::Members::scalar_suits))]
-fn member_suits(question: &Question<'_>, levels: u32, json: &Json) -> bool
+fn member_suits(question: &Question<'_>, levels: u32, json: Json<'_>) -> bool
     ensures { result
-        ≡ all_suit (asked_by question.now) levels (member_want (view json.now)) (view json.now) }
+        ≡ all_suit (asked_by question.now) levels (member_want (view json.entry)) (view json.entry) }
 {
     if is_scalar(json) {
         return true;
@@ -119,11 +121,12 @@ fn member_suits(question: &Question<'_>, levels: u32, json: &Json) -> bool
 }
 
 #[cycle(ask)]
-fn each_member(question: &Question<'_>, levels: u32, items: &[Json]) -> bool
+fn each_member(question: &Question<'_>, levels: u32, items: Elements<'_>) -> bool
     ensures { result
-        ≡ each_member (all_suit (asked_by question.now) levels) (items_view items.now) }
+        ≡ each_member (all_suit (asked_by question.now) levels) (items_view items.entry) }
 {
-    for item in items {
+    let mut rest = items;
+    while let Some(item) = rest.next() {
         if !member_suits(question, levels, item) {
             return false;
         }
@@ -132,11 +135,12 @@ fn each_member(question: &Question<'_>, levels: u32, items: &[Json]) -> bool
 }
 
 #[cycle(ask)]
-fn each_item(question: &Question<'_>, levels: u32, want: Want, items: &[Json]) -> bool
+fn each_item(question: &Question<'_>, levels: u32, want: Want, items: Elements<'_>) -> bool
     ensures { result ≡ each_item (all_suit (asked_by question.now) levels want)
-        (items_view items.now) }
+        (items_view items.entry) }
 {
-    for item in items {
+    let mut rest = items;
+    while let Some(item) = rest.next() {
         if !all_suit(question, levels, want, item) {
             return false;
         }
@@ -145,9 +149,9 @@ fn each_item(question: &Question<'_>, levels: u32, want: Want, items: &[Json]) -
 }
 
 #[cycle(ask)]
-fn one_for_one(question: &Question<'_>, levels: u32, wants: &[Want], items: &[Json]) -> bool
+fn one_for_one(question: &Question<'_>, levels: u32, wants: &[Want], items: Elements<'_>) -> bool
     ensures { result
-        ≡ one_for_one (all_suit (asked_by question.now) levels) wants.now (items_view items.now) }
+        ≡ one_for_one (all_suit (asked_by question.now) levels) wants.now (items_view items.entry) }
 {
     let mut rest = items;
     for want in wants {
@@ -163,9 +167,9 @@ fn one_for_one(question: &Question<'_>, levels: u32, wants: &[Want], items: &[Js
 }
 
 #[cycle(ask)]
-fn call_suits(question: &Question<'_>, levels: u32, call: CallKind, parts: &[Json]) -> bool
+fn call_suits(question: &Question<'_>, levels: u32, call: CallKind, parts: Elements<'_>) -> bool
     ensures { result ≡ call_suits (asked_by question.now)
-        (all_suit (asked_by question.now) levels) call (items_view parts.now) }
+        (all_suit (asked_by question.now) levels) call (items_view parts.entry) }
 {
     let Some((first, arguments)) = parts.split_first() else {
         return true;
@@ -177,16 +181,15 @@ fn call_suits(question: &Question<'_>, levels: u32, call: CallKind, parts: &[Jso
 }
 
 #[cycle(ask)]
-#[tactic(auto, using(crate::proofs::Counting::count_items))]
 fn word_suits(
     question: &Question<'_>,
     levels: u32,
     call: CallKind,
     word: &str,
-    arguments: &[Json],
+    arguments: Elements<'_>,
 ) -> bool
     ensures { result ≡ word_suits (asked_by question.now)
-        (all_suit (asked_by question.now) levels) call (items_view arguments.now) word.now }
+        (all_suit (asked_by question.now) levels) call (items_view arguments.entry) word.now }
 {
     match form_of(call, word, arguments.len()) {
         Some((wants, since)) => {
@@ -198,8 +201,8 @@ fn word_suits(
 }
 
 #[cycle(ask)]
-fn keys_suit(question: &Question<'_>, levels: u32, keyed: Keyed, json: &Json) -> bool
-    ensures { result ≡ keys_suit (all_suit (asked_by question.now) levels) keyed (view json.now)
+fn keys_suit(question: &Question<'_>, levels: u32, keyed: Keyed, json: Json<'_>) -> bool
+    ensures { result ≡ keys_suit (all_suit (asked_by question.now) levels) keyed (view json.entry)
         (keys_in keyed) }
 {
     let keys = keyed.keys();
@@ -212,9 +215,9 @@ fn keys_suit(question: &Question<'_>, levels: u32, keyed: Keyed, json: &Json) ->
 }
 
 #[cycle(ask)]
-fn key_suits(question: &Question<'_>, levels: u32, keyed: Keyed, key: &str, json: &Json) -> bool
+fn key_suits(question: &Question<'_>, levels: u32, keyed: Keyed, key: &str, json: Json<'_>) -> bool
     ensures { result ≡ if_there (all_suit (asked_by question.now) levels (key_want keyed key.now))
-        (get key.now (view json.now)) }
+        (get key.now (view json.entry)) }
 {
     match json.get(key) {
         Some(value) => all_suit(question, levels, keyed.want(key), value),

@@ -15,7 +15,8 @@ use Rattle.dv_forms.specs.Forms.{Key}
 use Rattle.dv_forms.specs.Repeat.{repeat_at}
 use Rattle.dv_grammar.specs.Grammar.{repeated, IsEvent, IsListed, one_event, repeats, AreListed, no_events, more_events}
 use Rattle.dv_grammar.specs.Grammar.{AreEvents, IsScript}
-use Rattle.dv_reader.specs.Limits.{nodes, item_nodes, member_nodes, weight, item_weights, member_weights, added_by}
+use Rattle.dv_document.specs.Nodes.{nodes, item_nodes, member_nodes}
+use Rattle.dv_reader.specs.Limits.{weight, item_weights, member_weights, added_by}
 use Rattle.dv_reader.specs.Limits.{added_at, added_among, added_in, added_to, all_nodes, or_no_items}
 use Rattle.dv_grammar.proofs.Steps.{picked}
 use Rattle.dv_grammar.proofs.Actions.{depth-get_member}

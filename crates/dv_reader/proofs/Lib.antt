@@ -9,3 +9,4 @@ pub mod TimesKept
 pub mod Version
 pub mod Lengths
 pub mod Cutting
+pub mod Puts

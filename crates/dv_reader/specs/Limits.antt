@@ -6,6 +6,7 @@ use Rattle.std.specs.List.{list_all}
 use Rattle.serde_json.specs.Data.{Data, null, boolean, number, string, array, object, Items, no_items, item, Members}
 use Rattle.serde_json.specs.Data.{no_members, member}
 use Rattle.serde_json.specs.Find.{as_array, get, as_number, as_u64}
+use Rattle.dv_document.specs.Nodes.{nodes}
 use Rattle.dv_script.specs.declared.event.Event.{Event}
 use Rattle.dv_script.specs.declared.event.Event.TheVariants.{Action, Advance, Drain, Expect}
 use Rattle.dv_grammar.specs.declared.draft.Draft.{Draft}
@@ -26,24 +27,6 @@ or_first (Some n) = if nat_le n LAST_VERSION then n else 1
 abbrev pub most_bytes_of : Data → ℕ
 most_bytes_of d =
     most_bytes (or_first (option_and_then as_u64 (option_and_then as_number (get (codes "version") d))))
-
--- the nodes of a JSON value, of the items of an array, and of the members of an object
-abbrev mutual
-  pub nodes : Data → ℕ
-  nodes null = 1
-  nodes (boolean b) = 1
-  nodes (number x) = 1
-  nodes (string text) = 1
-  nodes (array ds) = 1 + item_nodes ds
-  nodes (object ms) = 1 + member_nodes ms
-
-  pub item_nodes : Items → ℕ
-  item_nodes no_items = 0
-  item_nodes (item d ds) = nodes d + item_nodes ds
-
-  pub member_nodes : Members → ℕ
-  member_nodes no_members = 0
-  member_nodes (member key d ms) = nodes d + member_nodes ms
 
 -- the weight of a JSON value in what is repeated: its nodes, and one more for each 64 bytes of a text
 abbrev mutual

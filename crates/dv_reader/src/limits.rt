@@ -1,15 +1,17 @@
 ghost use Rattle.std.specs.Prelude.{◌≡◌, ◌+◌, ◌^◌, ◌-◌, min, nat_le};
 ghost use Rattle.std.specs.List.{list_all};
-ghost use Rattle.serde_json.specs.View.{view, items_view, members_view};
+ghost use Rattle.dv_document.specs.View.{view, items_view, members_view};
 ghost use Rattle.dv_clock.specs.declared.limits.TheConstants.{MOST_TICKS};
 ghost use Rattle.dv_forms.specs.Limits.{most_bytes, most_nodes};
 ghost use Rattle.dv_forms.specs.Repeat.{repeat_at};
-ghost use Rattle.dv_reader.specs.Limits.{nodes, item_nodes, member_nodes, ticks_of, ticks_in};
+ghost use Rattle.dv_reader.specs.Limits.{ticks_of, ticks_in};
 ghost use Rattle.dv_reader.specs.Limits.{weight, item_weights, member_weights, added_by, added_in};
 ghost use Rattle.dv_reader.specs.Limits.{added_among, added_at, added_to, all_nodes};
 ghost use Rattle.dv_reader.specs.Limits.{are_few, is_small, or_first, most_bytes_of};
 
 use dv_clock::limits::MOST_TICKS;
+use dv_document::places::{Elements, Json, Members};
+use dv_document::value::Kind;
 use dv_forms::limits::{WIDEST_NODES, most_bytes, most_nodes};
 use dv_forms::repeat::repeat_of;
 use dv_forms::versions::LAST_VERSION;
@@ -21,75 +23,40 @@ use dv_script::limits::{
     MOST_POSTS,
 };
 use dv_value::items::Items;
-use serde_json::{Map, Value as Json};
-
-/// How many nodes the value has, to the last number of 64 bits.
-#[cycle(nodes)]
-fn nodes(json: &Json) -> u64
-    ensures { result ≡ min (nodes (view json.now)) (2 ^ 64 - 1) }
-{
-    match json {
-        Json::Null | Json::Bool(_) | Json::Number(_) | Json::String(_) => 1,
-        Json::Array(items) => item_nodes(items.as_slice()).saturating_add(1),
-        Json::Object(members) => member_nodes(members).saturating_add(1),
-    }
-}
-
-#[cycle(nodes)]
-fn item_nodes(items: &[Json]) -> u64
-    ensures { result ≡ min (item_nodes (items_view items.now)) (2 ^ 64 - 1) }
-{
-    let mut count = 0u64;
-    for item in items {
-        count = count.saturating_add(match item {
-            Json::Null | Json::Bool(_) | Json::Number(_) | Json::String(_) => 1,
-            Json::Array(_) | Json::Object(_) => nodes(item),
-        });
-    }
-    count
-}
-
-#[cycle(nodes)]
-fn member_nodes(members: &Map<String, Json>) -> u64
-    ensures { result ≡ min (member_nodes (members_view members.now.entries)) (2 ^ 64 - 1) }
-{
-    let mut count = 0u64;
-    for (_, json) in members.iter() {
-        count = count.saturating_add(nodes(json));
-    }
-    count
-}
 
 /// How much the value weighs in what is repeated, to the last number of 64 bits.
 #[cycle(weights)]
-fn weight(json: &Json) -> u64
-    ensures { result ≡ min (weight (view json.now)) (2 ^ 64 - 1) }
+fn weight(json: Json<'_>) -> u64
+    ensures { result ≡ min (weight (view json.entry)) (2 ^ 64 - 1) }
 {
-    match json {
-        Json::Null | Json::Bool(_) | Json::Number(_) => 1,
-        Json::String(text) => (text.as_str().len() as u64 / 64).saturating_add(1),
-        Json::Array(items) => item_weights(items.as_slice()).saturating_add(1),
-        Json::Object(members) => member_weights(members).saturating_add(1),
+    match json.kind() {
+        Kind::Null | Kind::Bool(_) | Kind::Number(_) => 1,
+        Kind::String(text) => (text.len() as u64 / 64).saturating_add(1),
+        Kind::Array(items) => item_weights(items).saturating_add(1),
+        Kind::Object(members) => member_weights(members).saturating_add(1),
     }
 }
 
 #[cycle(weights)]
-fn item_weights(items: &[Json]) -> u64
-    ensures { result ≡ min (item_weights (items_view items.now)) (2 ^ 64 - 1) }
+fn item_weights(items: Elements<'_>) -> u64
+    ensures { result ≡ min (item_weights (items_view items.entry)) (2 ^ 64 - 1) }
 {
     let mut total = 0u64;
-    for item in items {
+    let mut rest = items;
+    while let Some(item) = rest.next() {
         total = total.saturating_add(weight(item));
     }
     total
 }
 
 #[cycle(weights)]
-fn member_weights(members: &Map<String, Json>) -> u64
-    ensures { result ≡ min (member_weights (members_view members.now.entries)) (2 ^ 64 - 1) }
+#[tactic(auto, using(crate::proofs::Puts::weights_put))]
+fn member_weights(members: Members<'_>) -> u64
+    ensures { result ≡ min (member_weights (members_view members.entry)) (2 ^ 64 - 1) }
 {
     let mut total = 0u64;
-    for (_, json) in members.iter() {
+    let mut rest = members;
+    while let Some((_, json)) = rest.next() {
         total = total.saturating_add(weight(json));
     }
     total
@@ -110,8 +77,8 @@ fn added_by(times: u64, weight: u64, added: u64) -> u64
 /// last number of 64 bits.
 #[cycle(added)]
 #[tactic(auto, unfolding(crate::specs::Limits::added_in))]
-fn added_in(levels: u32, items: &[Json]) -> u64
-    ensures { result ≡ min (added_in levels (items_view items.now)) (2 ^ 64 - 1) }
+fn added_in(levels: u32, items: Elements<'_>) -> u64
+    ensures { result ≡ min (added_in levels (items_view items.entry)) (2 ^ 64 - 1) }
 {
     if levels == 0 {
         return 0;
@@ -120,19 +87,20 @@ fn added_in(levels: u32, items: &[Json]) -> u64
 }
 
 #[cycle(added)]
-fn added_among(levels: u32, items: &[Json]) -> u64
-    ensures { result ≡ min (added_among (added_in levels) (items_view items.now)) (2 ^ 64 - 1) }
+fn added_among(levels: u32, items: Elements<'_>) -> u64
+    ensures { result ≡ min (added_among (added_in levels) (items_view items.entry)) (2 ^ 64 - 1) }
 {
     let mut total = 0u64;
-    for item in items {
+    let mut rest = items;
+    while let Some(item) = rest.next() {
         total = total.saturating_add(added_at(levels, item));
     }
     total
 }
 
 #[cycle(added)]
-fn added_at(levels: u32, json: &Json) -> u64
-    ensures { result ≡ min (added_at (added_in levels) (repeat_at (view json.now))) (2 ^ 64 - 1) }
+fn added_at(levels: u32, json: Json<'_>) -> u64
+    ensures { result ≡ min (added_at (added_in levels) (repeat_at (view json.entry))) (2 ^ 64 - 1) }
 {
     match repeat_of(json) {
         Some((times, events)) => added_of(levels, times, events),
@@ -143,40 +111,52 @@ fn added_at(levels: u32, json: &Json) -> u64
 /// How many nodes a repeat of this array of events adds.
 #[cycle(added)]
 #[tactic(auto, using(crate::proofs::Cutting::cut_added))]
-fn added_of(levels: u32, times: u64, events: &[Json]) -> u64
-    ensures { result ≡ min (added_by times (1 + item_weights (items_view events.now))
-        (added_in levels (items_view events.now))) (2 ^ 64 - 1) }
+fn added_of(levels: u32, times: u64, events: Elements<'_>) -> u64
+    ensures { result ≡ min (added_by times (1 + item_weights (items_view events.entry))
+        (added_in levels (items_view events.entry))) (2 ^ 64 - 1) }
 {
     let weight = item_weights(events).saturating_add(1);
     added_by(times, weight, added_in(levels, events))
 }
 
-/// How many nodes the repeats of a document add.
+/// How many nodes the repeats of a document add, to the last number of 64 bits.
 #[tactic(auto, unfolding(crate::specs::Limits::added_in))]
-fn added_to(json: &Json) -> u64
-    ensures { result ≡ min (added_to (view json.now)) (2 ^ 64 - 1) }
+pub(crate) fn added_to(json: Json<'_>) -> u64
+    ensures { result ≡ min (added_to (view json.entry)) (2 ^ 64 - 1) }
 {
     match json.get("events") {
-        Some(Json::Array(events)) => added_in(MOST_LEVELS, events.as_slice()),
-        Some(Json::Null | Json::Bool(_) | Json::Number(_) | Json::String(_) | Json::Object(_))
-        | None => 0,
+        Some(events) => match events.as_array() {
+            Some(events) => added_in(MOST_LEVELS, events),
+            None => 0,
+        },
+        None => 0,
     }
 }
 
-/// Whether the repeats of a document add no more nodes than a script of any version may have: else
-/// they aren't written out.
-pub fn adds_few_nodes(json: &Json) -> bool
-    ensures { result ≡ nat_le (added_to (view json.now)) WIDEST_NODES }
+/// Whether the repeats of a document, which add so many nodes, add no more than a script of any
+/// version may have: else they aren't written out.
+pub(crate) fn adds_few_nodes(json: Json<'_>, added: u64) -> bool
+    requires { added ≡ min (added_to (view json)) (2 ^ 64 - 1) }
+    ensures { result ≡ nat_le (added_to (view json.entry)) WIDEST_NODES }
 {
-    added_to(json) <= WIDEST_NODES
+    added <= WIDEST_NODES
 }
 
 /// Whether a document has few enough nodes for a script of this version, with those that its
 /// repeats add.
-pub fn has_few_nodes(version: u32, json: &Json) -> bool
-    ensures { result ≡ nat_le (all_nodes (view json.now)) (most_nodes version) }
+pub fn has_few_nodes(version: u32, json: Json<'_>) -> bool
+    ensures { result ≡ nat_le (all_nodes (view json.entry)) (most_nodes version) }
 {
-    nodes(json).saturating_add(added_to(json)) <= most_nodes(version)
+    are_few_nodes(version, json, added_to(json))
+}
+
+/// The same, where the repeats add so many.
+fn are_few_nodes(version: u32, json: Json<'_>, added: u64) -> bool
+    requires { added ≡ min (added_to (view json)) (2 ^ 64 - 1) }
+    ensures { result ≡ nat_le (all_nodes (view json.entry)) (most_nodes version) }
+{
+    let nodes = json.count_nodes() as u64;
+    nodes.saturating_add(added) <= most_nodes(version)
 }
 
 fn or_first(version: Option<u64>) -> u32
@@ -193,8 +173,8 @@ fn or_first(version: Option<u64>) -> u32
 }
 
 /// The most bytes that the text of this value may have.
-pub fn most_bytes_of(json: &Json) -> usize
-    ensures { result ≡ most_bytes_of (view json.now) }
+pub fn most_bytes_of(json: Json<'_>) -> usize
+    ensures { result ≡ most_bytes_of (view json.entry) }
 {
     match json.get("version") {
         Some(version) => most_bytes(or_first(version.as_u64())),
@@ -240,12 +220,13 @@ fn all_are_few(callers: &[Items<Body>]) -> bool
     callers.iter().all(are_few)
 }
 
-/// Whether a script of this JSON value has few enough nodes, classes, pools, bodies, Cooperators, callers,
-/// posts and ticks.
-pub fn is_small(json: &Json, draft: &Draft) -> bool
-    ensures { result ≡ is_small (view json.now) draft.now }
+/// Whether a script of this JSON value, whose repeats add so many nodes, has few enough nodes, classes,
+/// pools, bodies, Cooperators, callers, posts and ticks.
+pub(crate) fn is_small(json: Json<'_>, added: u64, draft: &Draft) -> bool
+    requires { added ≡ min (added_to (view json)) (2 ^ 64 - 1) }
+    ensures { result ≡ is_small (view json.entry) draft.now }
 {
-    has_few_nodes(draft.version, json)
+    are_few_nodes(draft.version, json, added)
         && draft.declared.as_slice().len() <= MOST_CLASSES
         && draft.script.pools.as_slice().len() <= MOST_POOLS
         && draft.script.bodies.as_slice().len() <= MOST_BODIES

@@ -1,7 +1,10 @@
--- Wants, counted.
+-- Wants and items, counted.
 use Rattle.std.proofs.Common.{◌≡◌, ◌≢◌, ℕ, zero, suc, ◌-◌, ◌<◌, ◌≤◌, List, [], ◌∷◌, length, get_or, Some, None, refl}
 use Rattle.std.proofs.Common.{ap, arith}
 use Rattle.serde_json.specs.Data.{Data}
+use Rattle.serde_json.specs.View.{items_view}
+use Rattle.serde_json.specs.declared.value.Value.{Value}
+use Rattle.dv_document.specs.View.{count}
 use Rattle.dv_forms.specs.declared.want.Want.{Want}
 use Rattle.dv_forms.specs.declared.want.CallKind.{CallKind}
 use Rattle.dv_why.specs.Places.{argument_want, call_want, nth}
@@ -22,3 +25,8 @@ nth_past (w ∷ ws) (suc n) h = nth_past ws n (omega arith)
 pub after_word : (c : CallKind) (d : Data) (n : ℕ) → n ≢ 0 → argument_want c d (n - 1) ≡ call_want c d n
 after_word c d zero h = absurd (h refl)
 after_word c d (suc n) h = let e : suc n - 1 ≡ n = omega arith in ap (λ (k : ℕ). argument_want c d k) e
+
+-- there are as many items as values
+pub count_items : (vs : List Value) → count (items_view vs) ≡ length vs
+count_items [] = refl
+count_items (v ∷ vs) = ap suc (count_items vs)

@@ -28,7 +28,7 @@ use Rattle.dv_why.proofs.Actions.{action_begins}
 use Rattle.dv_why.proofs.Forms.{checked_word}
 use Rattle.dv_why.proofs.Versions.{same_version}
 use Rattle.dv_reader.specs.Limits.{all_nodes, ticks_of, ticks_in as draft_ticks, are_few, is_small}
-use Rattle.dv_questions.specs.Asking.{count}
+use Rattle.dv_document.specs.View.{count}
 use Rattle.dv_why.specs.Documents.{or_no_items, version_in}
 use Rattle.dv_why.specs.Counts.{all_ticks, count_at, count_in, listed_ticks, posts_of, ticks_by, ticks_at, ticks_among}
 use Rattle.dv_why.specs.Counts.{ticks_in}

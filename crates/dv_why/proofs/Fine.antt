@@ -23,7 +23,7 @@ use Rattle.dv_why.specs.declared.question.Question.TheVariants as question
 use Rattle.dv_forms.specs.Wants.{item_want}
 use Rattle.dv_forms.specs.Words.{may_stand, wants_of}
 use Rattle.dv_why.specs.Places.{nth, part_want, value_want}
-use Rattle.dv_questions.specs.Asking.{count}
+use Rattle.dv_document.specs.View.{count}
 use Rattle.dv_forms.specs.declared.versions.TheConstants.{LAST_VERSION}
 use Rattle.dv_why.specs.Fits.{fits, word_fits}
 use Rattle.dv_why.specs.AllSuit.{AllSuit}

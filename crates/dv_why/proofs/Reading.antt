@@ -84,7 +84,7 @@ use Rattle.dv_forms.specs.Wants.{a_deferred, a_class, a_cooperator, a_text, a_co
 use Rattle.dv_forms.specs.Wants.{keys_in}
 use Rattle.dv_forms.specs.Words.{own_forms, wants_in}
 use Rattle.dv_why.specs.Places.{nth}
-use Rattle.dv_questions.specs.Asking.{count}
+use Rattle.dv_document.specs.View.{count}
 use Rattle.dv_why.specs.Documents.{version_in, script_in}
 use Rattle.dv_why.specs.Fits.{fits, are_two}
 use Rattle.dv_why.specs.AllSuit.{AllSuit}

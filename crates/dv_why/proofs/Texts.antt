@@ -15,7 +15,8 @@ use Rattle.dv_forms.specs.Parts.{call_at}
 use Rattle.dv_forms.specs.Wants.{item_want, key_want, keys_in, member_want, pair_wants}
 use Rattle.dv_forms.specs.Words.{wants_of}
 use Rattle.dv_questions.specs.Questions.{Asked}
-use Rattle.dv_questions.specs.Asking.{count, if_there, each_item, each_member, one_for_one, arguments_suit, word_suits}
+use Rattle.dv_document.specs.View.{count}
+use Rattle.dv_questions.specs.Asking.{if_there, each_item, each_member, one_for_one, arguments_suit, word_suits}
 use Rattle.dv_questions.specs.Asking.{call_suits}
 use Rattle.dv_questions.specs.Asking.{keys_suit, name_suits, in_parts, all_suit}
 use Rattle.dv_why.specs.declared.question.Question.{Question}

@@ -4,7 +4,7 @@ use Rattle.serde_json.specs.Data.{Data, Items, no_items, item}
 use Rattle.serde_json.specs.Find.{at, get_item, as_array, as_number, as_str, as_u64}
 use Rattle.dv_script.specs.declared.limits.TheConstants.{MOST_LEVELS}
 use Rattle.dv_forms.specs.Repeat.{repeat_at}
-use Rattle.dv_questions.specs.Asking.{count}
+use Rattle.dv_document.specs.View.{count}
 use Rattle.dv_why.specs.Documents.{or_no_items, list_in}
 
 -- how many items there are in the array of a key

@@ -10,7 +10,7 @@ use Rattle.serde_json.specs.View.{view}
 use Rattle.serde_json.specs.declared.value.Value.{Value}
 use Rattle.dv_forms.specs.Forms.{is_first_error}
 use Rattle.dv_forms.specs.Parts.{empty_at, text_at, integer_at, number_at, bound_at, list_flag_at, gather_flag_at}
-use Rattle.dv_questions.specs.Asking.{count}
+use Rattle.dv_document.specs.View.{count}
 use Rattle.dv_questions.specs.Questions.{has_object, is_body, is_cooperator, is_known, is_named, is_pool}
 use Rattle.dv_questions.specs.Questions.{object_stands}
 use Rattle.dv_forms.specs.declared.want.Leaf.{Leaf}

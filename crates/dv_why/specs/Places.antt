@@ -11,7 +11,7 @@ use Rattle.dv_forms.specs.declared.want.Want.TheVariants as want
 use Rattle.dv_forms.specs.declared.want.CallKind.{CallKind}
 use Rattle.dv_forms.specs.Wants.{item_want, key_want, member_want, pair_wants}
 use Rattle.dv_forms.specs.Words.{wants_of}
-use Rattle.dv_questions.specs.Asking.{count}
+use Rattle.dv_document.specs.View.{count}
 
 -- a step by itself: to the value of a key, or to the item of a number
 pub data Part : Type 0 where

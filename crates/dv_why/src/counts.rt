@@ -12,7 +12,7 @@ ghost use Rattle.dv_why.specs.Counts.{ticks_among, ticks_at};
 ghost use Rattle.dv_why.specs.Documents.{list_in, or_no_items, script_in};
 ghost use Rattle.dv_why.specs.Finds.{Leads};
 ghost use Rattle.dv_why.specs.Places.{to_item, to_key};
-ghost use Rattle.dv_questions.specs.Asking.{count};
+ghost use Rattle.dv_document.specs.View.{count};
 ghost use Rattle.dv_why.specs.Reasons.{IsRefusedFor};
 ghost use Rattle.dv_forms.specs.Wants.{all_callers};
 ghost use Rattle.dv_why.specs.Wrong.{IsAt, IsTooMuch};
@@ -20,10 +20,9 @@ ghost use Rattle.dv_why.specs.Wrong.{IsAt, IsTooMuch};
 use crate::document::{value_of, version_of, whole};
 use crate::expected::Expected;
 use crate::misfit::{Misfit, Step};
+use crate::tree::{has_few_nodes, repeat_of};
 use dv_clock::limits::MOST_TICKS;
-use dv_forms::repeat::repeat_of;
 use dv_forms::want::Item;
-use dv_reader::limits::has_few_nodes;
 use dv_script::limits::{
     MOST_BODIES, MOST_CALLERS, MOST_CLASSES, MOST_COOPERATORS, MOST_LEVELS, MOST_POOLS, MOST_POSTS,
 };
@@ -93,7 +92,7 @@ pub fn items_of<'j>(json: &'j Json, key: &str) -> &'j [Json]
     }
 }
 
-#[tactic(auto, using(dv_questions::proofs::Counting::count_items))]
+#[tactic(auto, using(crate::proofs::Counting::count_items))]
 fn is_long(json: &Json, key: &str, most: usize) -> bool
     ensures { result ≡ nat_lt most (count_in key.now (view json.now)) }
 {
@@ -124,7 +123,7 @@ fn busy_caller(alloc: Global, callers: &Json) -> Result<Option<Misfit<'_>>, Allo
     Ok(None)
 }
 
-#[tactic(auto, using(dv_questions::proofs::Counting::count_items))]
+#[tactic(auto, using(crate::proofs::Counting::count_items))]
 fn is_busy(posts: &Json) -> bool
     ensures { result ≡ nat_lt MOST_POSTS (count (or_no_items (as_array (view posts.now)))) }
 {
@@ -163,7 +162,8 @@ pub fn too_many(alloc: Global, json: &Json) -> Result<(Misfit<'_>, Expected), Al
     ensures wrong { IfOk result (λ found. IsTooMuch (view json.now) found.0) }
 {
     let version = version_of(json);
-    if !has_few_nodes(version, json) {
+    let few = has_few_nodes(alloc, version, json)?;
+    if !few {
         return Ok((whole(alloc, json), Expected::FewNodes(version)));
     }
     if is_long(json, "classes", MOST_CLASSES) {

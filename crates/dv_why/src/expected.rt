@@ -1,4 +1,4 @@
-use dv_forms::leaf::call as call_in;
+use crate::tree::call_in;
 use dv_forms::limits::most_nodes;
 use dv_forms::versions::{BODIES_SINCE, COMMENTS_SINCE, FAILURES_SINCE, MARKS_SINCE};
 use dv_forms::want::{CallKind, Item, Keyed, Leaf, Object, PairKind, Want};
@@ -421,8 +421,8 @@ fn shown_of(call: CallKind, word: &str) -> Option<Shown> {
 /// The forms of the word with which a call begins, if it is one that may stand there.
 fn forms_in(call: CallKind, json: &Json) -> Option<Shown> {
     match call_in(json) {
-        Ok((word, _)) => shown_of(call, word),
-        Err(_) => None,
+        Some((word, _)) => shown_of(call, word),
+        None => None,
     }
 }
 

@@ -3,8 +3,7 @@
 ghost use Rattle.std.specs.Prelude.{◌≡◌, ◌≤◌, ◌+◌, true, None, Some, IfOk, IfSome, option_map};
 ghost use Rattle.serde_json.specs.Data.{Data, depth};
 ghost use Rattle.serde_json.specs.Find.{at, get};
-ghost use Rattle.serde_json.specs.View.{view, items_view, members_view};
-ghost use Rattle.dv_forms.specs.Parts.{call_at};
+ghost use Rattle.serde_json.specs.View.{view, members_view};
 ghost use Rattle.dv_why.specs.AllSuit.{AllSuit, ItemsSuit, KnownSuit, OthersOf, OthersSuit};
 ghost use Rattle.dv_why.specs.Finds.{Finds};
 ghost use Rattle.dv_why.specs.Fits.{first_other, is_other, suits};
@@ -13,7 +12,8 @@ ghost use Rattle.dv_forms.specs.Wants.{key_want, member_want};
 
 use crate::misfit::{Misfit, Step};
 use crate::question::{Question, suits};
-use dv_forms::want::{CallKind, Keyed, Want, member_want};
+use crate::tree::{call_in, member_want};
+use dv_forms::want::{CallKind, Keyed, Want};
 use dv_forms::words::wants_of;
 use serde_json::{Map, Value as Json};
 use std::alloc::{AllocError, Global};
@@ -29,26 +29,8 @@ fn nth(wants: &[Want], number: usize) -> Option<Want>
     }
 }
 
-/// The word of a call, and what comes with it.
-#[tactic(auto, unfolding(dv_forms::specs::Parts::call_at))]
-fn call_in(json: &Json) -> Option<(&str, &[Json])>
-    ensures { option_map (λ call. (call.0.now, items_view call.1.now)) result
-        ≡ call_at (view json.now) }
-{
-    let Json::Array(parts) = json else {
-        return None;
-    };
-    let Some((first, arguments)) = parts.as_slice().split_first() else {
-        return None;
-    };
-    let Json::String(word) = first else {
-        return None;
-    };
-    Some((word.as_str(), arguments))
-}
-
 /// What the place of this argument of a call asks for.
-#[tactic(auto, using(dv_questions::proofs::Counting::count_items))]
+#[tactic(auto, using(crate::proofs::Counting::count_items))]
 fn argument_of(call: CallKind, json: &Json, number: usize) -> Option<Want>
     ensures { result ≡ argument_want call (view json.now) number }
 {

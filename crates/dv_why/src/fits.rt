@@ -7,7 +7,7 @@ ghost use Rattle.dv_why.specs.Fits.{value_fits, begins_well, parts_fit, array_fi
 ghost use Rattle.dv_why.specs.Fits.{word_fits, is_empty, is_of_class, has_keys, keyed_fits, fits};
 
 use crate::leaf::leaf_fits;
-use dv_forms::failure::is_first_error;
+use crate::tree::is_first_error;
 use dv_forms::versions::{BODIES_SINCE, LAST_VERSION};
 use dv_forms::want::{CallKind, Keyed, Want};
 use dv_forms::words::{may_stand, wants_of};
@@ -35,7 +35,7 @@ fn begins_well(call: CallKind, first: &Json, given: usize) -> bool
     }
 }
 
-#[tactic(auto, using(dv_questions::proofs::Counting::count_items))]
+#[tactic(auto, using(crate::proofs::Counting::count_items))]
 fn parts_fit(call: CallKind, parts: &[Json]) -> bool
     ensures { result ≡ parts_fit call (items_view parts.now) }
 {
@@ -54,7 +54,7 @@ fn call_fits(call: CallKind, json: &Json) -> bool
     }
 }
 
-#[tactic(auto, using(dv_questions::proofs::Counting::count_items))]
+#[tactic(auto, using(crate::proofs::Counting::count_items))]
 fn are_two(parts: &[Json]) -> bool
     ensures { result ≡ are_two (items_view parts.now) }
 {

@@ -18,4 +18,5 @@ mod names;
 mod place;
 mod pools;
 mod question;
+mod tree;
 pub mod why;

@@ -1,5 +1,5 @@
 ghost use Rattle.std.specs.Prelude.{option_map};
-ghost use Rattle.serde_json.specs.View.{view, items_view};
+ghost use Rattle.dv_document.specs.View.{view, items_view};
 ghost use Rattle.dv_clock.specs.declared.limits.TheConstants.{MOST_DELAY};
 ghost use Rattle.dv_forms.specs.Answer.{Reads};
 ghost use Rattle.dv_script.specs.declared.limits.TheConstants.{MOST_PLACES, MOST_UNITS};
@@ -13,6 +13,7 @@ use crate::reading::body::{bodies, body};
 use crate::reading::statement::statements;
 use crate::reading::work::{thread, thread_in};
 use dv_clock::limits::MOST_DELAY;
+use dv_document::places::{Elements, Json};
 use dv_forms::arguments::{
     named_bounds, named_delay, named_failure, named_gathering, named_list, named_places,
     named_value, one_small, one_text, two_texts,
@@ -28,7 +29,6 @@ use dv_script::limits::MOST_UNITS;
 use dv_value::classes::Classes;
 use dv_value::items::Items;
 use dv_value::text::Text;
-use serde_json::Value as Json;
 use std::alloc::Global;
 
 /// The words that take a name and a body.
@@ -50,9 +50,9 @@ pub fn action(
     alloc: Global,
     classes: &Classes,
     levels: u32,
-    json: &Json,
+    json: Json<'_>,
 ) -> Result<Action, ShapeFault>
-    ensures { Reads result (action_at classes.now levels (view json.now)) }
+    ensures { Reads result (action_at classes.now levels (view json.entry)) }
 {
     let (word, arguments) = call(json)?;
     let Some(word) = ActionWord::named(word) else {
@@ -122,12 +122,13 @@ pub fn actions(
     alloc: Global,
     classes: &Classes,
     levels: u32,
-    items: &[Json],
+    items: Elements<'_>,
 ) -> Result<Items<Action>, ShapeFault>
-    ensures { Reads result (each (action_at classes.now levels) (items_view items.now)) }
+    ensures { Reads result (each (action_at classes.now levels) (items_view items.entry)) }
 {
     let mut actions = Items::with_capacity(alloc, items.len())?;
-    for item in items {
+    let mut rest = items;
+    while let Some(item) = rest.next() {
         actions.push(action(alloc, classes, levels, item)?)?;
     }
     Ok(actions)
@@ -140,10 +141,10 @@ fn deferred(
     alloc: Global,
     classes: &Classes,
     levels: u32,
-    arguments: &[Json],
+    arguments: Elements<'_>,
 ) -> Result<Action, ShapeFault>
     ensures { Reads result (new_deferred_of (body_at classes.now levels)
-        (items_view arguments.now)) }
+        (items_view arguments.entry)) }
 {
     let (name, json) = one_or_two(arguments)?;
     let name = text(alloc, name)?;
@@ -158,9 +159,9 @@ fn add_timeout(
     alloc: Global,
     classes: &Classes,
     levels: u32,
-    arguments: &[Json],
+    arguments: Elements<'_>,
 ) -> Result<Action, ShapeFault>
-    ensures { Reads result (timeout_of (body_at classes.now levels) (items_view arguments.now)) }
+    ensures { Reads result (timeout_of (body_at classes.now levels) (items_view arguments.entry)) }
 {
     let (name, delay, json) = two_or_three(arguments)?;
     let name = text(alloc, name)?;
@@ -175,10 +176,10 @@ fn maybe_body(
     alloc: Global,
     classes: &Classes,
     levels: u32,
-    json: Option<&Json>,
+    json: Option<Json<'_>>,
 ) -> Result<Option<Body>, ShapeFault>
     ensures { Reads result (if_there (body_at classes.now levels)
-        (option_map (λ d. view d.now) json.entry)) }
+        (option_map (λ d. view d) json.entry)) }
 {
     match json {
         None => Ok(None),
@@ -195,10 +196,10 @@ fn with_body(
     classes: &Classes,
     levels: u32,
     word: WithBody,
-    arguments: &[Json],
+    arguments: Elements<'_>,
 ) -> Result<Action, ShapeFault>
     ensures { Reads result (two_of text_at (body_at classes.now levels) (with_body word)
-        (items_view arguments.now)) }
+        (items_view arguments.entry)) }
 {
     let (name, json) = two(arguments)?;
     let name = text(alloc, name)?;
@@ -218,10 +219,10 @@ fn add_callbacks(
     alloc: Global,
     classes: &Classes,
     levels: u32,
-    arguments: &[Json],
+    arguments: Elements<'_>,
 ) -> Result<Action, ShapeFault>
     ensures { Reads result (three_of text_at (body_at classes.now levels)
-        (body_at classes.now levels) Action.AddCallbacks (items_view arguments.now)) }
+        (body_at classes.now levels) Action.AddCallbacks (items_view arguments.entry)) }
 {
     let (name, callback, errback) = three(arguments)?;
     let name = text(alloc, name)?;
@@ -237,10 +238,10 @@ fn run_with(
     alloc: Global,
     classes: &Classes,
     levels: u32,
-    arguments: &[Json],
+    arguments: Elements<'_>,
 ) -> Result<Action, ShapeFault>
     ensures { Reads result (three_of text_at text_at (body_at classes.now levels) Action.RunWith
-        (items_view arguments.now)) }
+        (items_view arguments.entry)) }
 {
     let (name, lock, json) = three(arguments)?;
     let name = text(alloc, name)?;
@@ -256,10 +257,10 @@ fn later(
     alloc: Global,
     classes: &Classes,
     levels: u32,
-    arguments: &[Json],
+    arguments: Elements<'_>,
 ) -> Result<Action, ShapeFault>
     ensures { Reads result (three_of text_at (number_at 0 MOST_DELAY)
-        (body_at classes.now levels) Action.Later (items_view arguments.now)) }
+        (body_at classes.now levels) Action.Later (items_view arguments.entry)) }
 {
     let (name, delay, json) = three(arguments)?;
     let name = text(alloc, name)?;
@@ -275,9 +276,9 @@ fn loop_of(
     alloc: Global,
     classes: &Classes,
     levels: u32,
-    arguments: &[Json],
+    arguments: Elements<'_>,
 ) -> Result<Action, ShapeFault>
-    ensures { Reads result (loop_of (body_at classes.now levels) (items_view arguments.now)) }
+    ensures { Reads result (loop_of (body_at classes.now levels) (items_view arguments.entry)) }
 {
     let (name, deferred, interval, at_once, json) = five(arguments)?;
     let name = text(alloc, name)?;
@@ -295,10 +296,10 @@ fn cooperate(
     alloc: Global,
     classes: &Classes,
     levels: u32,
-    arguments: &[Json],
+    arguments: Elements<'_>,
 ) -> Result<Action, ShapeFault>
     ensures { Reads result (two_of text_at (list_at (body_at classes.now levels)) Action.Cooperate
-        (items_view arguments.now)) }
+        (items_view arguments.entry)) }
 {
     let (name, json) = two(arguments)?;
     let name = text(alloc, name)?;
@@ -313,10 +314,10 @@ fn cooperate_in(
     alloc: Global,
     classes: &Classes,
     levels: u32,
-    arguments: &[Json],
+    arguments: Elements<'_>,
 ) -> Result<Action, ShapeFault>
     ensures { Reads result (three_of text_at text_at (list_at (body_at classes.now levels))
-        Action.CooperateIn (items_view arguments.now)) }
+        Action.CooperateIn (items_view arguments.entry)) }
 {
     let (name, cooperator, json) = three(arguments)?;
     let name = text(alloc, name)?;
@@ -332,10 +333,10 @@ fn inline(
     alloc: Global,
     classes: &Classes,
     levels: u32,
-    arguments: &[Json],
+    arguments: Elements<'_>,
 ) -> Result<Action, ShapeFault>
     ensures { Reads result (two_of text_at (list_at (statement_at classes.now levels)) Action.Inline
-        (items_view arguments.now)) }
+        (items_view arguments.entry)) }
 {
     let (name, json) = two(arguments)?;
     let name = text(alloc, name)?;
@@ -344,208 +345,208 @@ fn inline(
 }
 
 #[inline(never)]
-fn callback(alloc: Global, classes: &Classes, arguments: &[Json]) -> Result<Action, ShapeFault>
+fn callback(alloc: Global, classes: &Classes, arguments: Elements<'_>) -> Result<Action, ShapeFault>
     ensures { Reads result (two_of text_at (value_at classes.now) Action.Callback
-        (items_view arguments.now)) }
+        (items_view arguments.entry)) }
 {
     let (name, value) = named_value(alloc, classes, arguments)?;
     Ok(Action::Callback(name, value))
 }
 
 #[inline(never)]
-fn errback(alloc: Global, classes: &Classes, arguments: &[Json]) -> Result<Action, ShapeFault>
+fn errback(alloc: Global, classes: &Classes, arguments: Elements<'_>) -> Result<Action, ShapeFault>
     ensures { Reads result (three_of text_at (class_at classes.now) text_at Action.Errback
-        (items_view arguments.now)) }
+        (items_view arguments.entry)) }
 {
     let (name, class, message) = named_failure(alloc, classes, arguments)?;
     Ok(Action::Errback(name, class, message))
 }
 
 #[inline(never)]
-fn chain(alloc: Global, arguments: &[Json]) -> Result<Action, ShapeFault>
-    ensures { Reads result (two_of text_at text_at Action.Chain (items_view arguments.now)) }
+fn chain(alloc: Global, arguments: Elements<'_>) -> Result<Action, ShapeFault>
+    ensures { Reads result (two_of text_at text_at Action.Chain (items_view arguments.entry)) }
 {
     let (name, other) = two_texts(alloc, arguments)?;
     Ok(Action::Chain(name, other))
 }
 
 #[inline(never)]
-fn pause(alloc: Global, arguments: &[Json]) -> Result<Action, ShapeFault>
-    ensures { Reads result (one_of text_at Action.Pause (items_view arguments.now)) }
+fn pause(alloc: Global, arguments: Elements<'_>) -> Result<Action, ShapeFault>
+    ensures { Reads result (one_of text_at Action.Pause (items_view arguments.entry)) }
 {
     Ok(Action::Pause(one_text(alloc, arguments)?))
 }
 
 #[inline(never)]
-fn unpause(alloc: Global, arguments: &[Json]) -> Result<Action, ShapeFault>
-    ensures { Reads result (one_of text_at Action.Unpause (items_view arguments.now)) }
+fn unpause(alloc: Global, arguments: Elements<'_>) -> Result<Action, ShapeFault>
+    ensures { Reads result (one_of text_at Action.Unpause (items_view arguments.entry)) }
 {
     Ok(Action::Unpause(one_text(alloc, arguments)?))
 }
 
 #[inline(never)]
-fn cancel(alloc: Global, arguments: &[Json]) -> Result<Action, ShapeFault>
-    ensures { Reads result (one_of text_at Action.Cancel (items_view arguments.now)) }
+fn cancel(alloc: Global, arguments: Elements<'_>) -> Result<Action, ShapeFault>
+    ensures { Reads result (one_of text_at Action.Cancel (items_view arguments.entry)) }
 {
     Ok(Action::Cancel(one_text(alloc, arguments)?))
 }
 
 #[inline(never)]
-fn note(alloc: Global, arguments: &[Json]) -> Result<Action, ShapeFault>
-    ensures { Reads result (one_of text_at Action.Note (items_view arguments.now)) }
+fn note(alloc: Global, arguments: Elements<'_>) -> Result<Action, ShapeFault>
+    ensures { Reads result (one_of text_at Action.Note (items_view arguments.entry)) }
 {
     Ok(Action::Note(one_text(alloc, arguments)?))
 }
 
 #[inline(never)]
-fn list(alloc: Global, arguments: &[Json]) -> Result<Action, ShapeFault>
+fn list(alloc: Global, arguments: Elements<'_>) -> Result<Action, ShapeFault>
     ensures { Reads result (three_of text_at (list_at text_at)
-        (list_at list_flag_at) Action.List (items_view arguments.now)) }
+        (list_at list_flag_at) Action.List (items_view arguments.entry)) }
 {
     let (name, children, flags) = named_list(alloc, arguments)?;
     Ok(Action::List(name, children, flags))
 }
 
 #[inline(never)]
-fn gather(alloc: Global, arguments: &[Json]) -> Result<Action, ShapeFault>
+fn gather(alloc: Global, arguments: Elements<'_>) -> Result<Action, ShapeFault>
     ensures { Reads result (three_of text_at (list_at text_at)
-        (list_at gather_flag_at) Action.Gather (items_view arguments.now)) }
+        (list_at gather_flag_at) Action.Gather (items_view arguments.entry)) }
 {
     let (name, children, flags) = named_gathering(alloc, arguments)?;
     Ok(Action::Gather(name, children, flags))
 }
 
 #[inline(never)]
-fn lock(alloc: Global, arguments: &[Json]) -> Result<Action, ShapeFault>
-    ensures { Reads result (one_of text_at Action.Lock (items_view arguments.now)) }
+fn lock(alloc: Global, arguments: Elements<'_>) -> Result<Action, ShapeFault>
+    ensures { Reads result (one_of text_at Action.Lock (items_view arguments.entry)) }
 {
     Ok(Action::Lock(one_text(alloc, arguments)?))
 }
 
 #[inline(never)]
-fn semaphore(alloc: Global, arguments: &[Json]) -> Result<Action, ShapeFault>
+fn semaphore(alloc: Global, arguments: Elements<'_>) -> Result<Action, ShapeFault>
     ensures { Reads result
-        (two_of text_at (number_at 1 MOST_PLACES) Action.Semaphore (items_view arguments.now)) }
+        (two_of text_at (number_at 1 MOST_PLACES) Action.Semaphore (items_view arguments.entry)) }
 {
     let (name, places) = named_places(alloc, arguments)?;
     Ok(Action::Semaphore(name, places))
 }
 
 #[inline(never)]
-fn acquire(alloc: Global, arguments: &[Json]) -> Result<Action, ShapeFault>
-    ensures { Reads result (two_of text_at text_at Action.Acquire (items_view arguments.now)) }
+fn acquire(alloc: Global, arguments: Elements<'_>) -> Result<Action, ShapeFault>
+    ensures { Reads result (two_of text_at text_at Action.Acquire (items_view arguments.entry)) }
 {
     let (name, lock) = two_texts(alloc, arguments)?;
     Ok(Action::Acquire(name, lock))
 }
 
 #[inline(never)]
-fn release(alloc: Global, arguments: &[Json]) -> Result<Action, ShapeFault>
-    ensures { Reads result (one_of text_at Action.Release (items_view arguments.now)) }
+fn release(alloc: Global, arguments: Elements<'_>) -> Result<Action, ShapeFault>
+    ensures { Reads result (one_of text_at Action.Release (items_view arguments.entry)) }
 {
     Ok(Action::Release(one_text(alloc, arguments)?))
 }
 
 #[inline(never)]
-fn queue(alloc: Global, arguments: &[Json]) -> Result<Action, ShapeFault>
+fn queue(alloc: Global, arguments: Elements<'_>) -> Result<Action, ShapeFault>
     ensures { Reads result
-        (three_of text_at bound_at bound_at Action.Queue (items_view arguments.now)) }
+        (three_of text_at bound_at bound_at Action.Queue (items_view arguments.entry)) }
 {
     let (name, size, backlog) = named_bounds(alloc, arguments)?;
     Ok(Action::Queue(name, size, backlog))
 }
 
 #[inline(never)]
-fn put(alloc: Global, classes: &Classes, arguments: &[Json]) -> Result<Action, ShapeFault>
+fn put(alloc: Global, classes: &Classes, arguments: Elements<'_>) -> Result<Action, ShapeFault>
     ensures { Reads result (two_of text_at (value_at classes.now) Action.Put
-        (items_view arguments.now)) }
+        (items_view arguments.entry)) }
 {
     let (name, value) = named_value(alloc, classes, arguments)?;
     Ok(Action::Put(name, value))
 }
 
 #[inline(never)]
-fn get(alloc: Global, arguments: &[Json]) -> Result<Action, ShapeFault>
-    ensures { Reads result (two_of text_at text_at Action.Get (items_view arguments.now)) }
+fn get(alloc: Global, arguments: Elements<'_>) -> Result<Action, ShapeFault>
+    ensures { Reads result (two_of text_at text_at Action.Get (items_view arguments.entry)) }
 {
     let (name, queue) = two_texts(alloc, arguments)?;
     Ok(Action::Get(name, queue))
 }
 
 #[inline(never)]
-fn cancel_call(alloc: Global, arguments: &[Json]) -> Result<Action, ShapeFault>
-    ensures { Reads result (one_of text_at Action.CancelCall (items_view arguments.now)) }
+fn cancel_call(alloc: Global, arguments: Elements<'_>) -> Result<Action, ShapeFault>
+    ensures { Reads result (one_of text_at Action.CancelCall (items_view arguments.entry)) }
 {
     Ok(Action::CancelCall(one_text(alloc, arguments)?))
 }
 
 #[inline(never)]
-fn reset_call(alloc: Global, arguments: &[Json]) -> Result<Action, ShapeFault>
+fn reset_call(alloc: Global, arguments: Elements<'_>) -> Result<Action, ShapeFault>
     ensures { Reads result
-        (two_of text_at (number_at 0 MOST_DELAY) Action.ResetCall (items_view arguments.now)) }
+        (two_of text_at (number_at 0 MOST_DELAY) Action.ResetCall (items_view arguments.entry)) }
 {
     let (name, delay) = named_delay(alloc, arguments)?;
     Ok(Action::ResetCall(name, delay))
 }
 
 #[inline(never)]
-fn delay_call(alloc: Global, arguments: &[Json]) -> Result<Action, ShapeFault>
+fn delay_call(alloc: Global, arguments: Elements<'_>) -> Result<Action, ShapeFault>
     ensures { Reads result
-        (two_of text_at (number_at 0 MOST_DELAY) Action.DelayCall (items_view arguments.now)) }
+        (two_of text_at (number_at 0 MOST_DELAY) Action.DelayCall (items_view arguments.entry)) }
 {
     let (name, delay) = named_delay(alloc, arguments)?;
     Ok(Action::DelayCall(name, delay))
 }
 
 #[inline(never)]
-fn stop_loop(alloc: Global, arguments: &[Json]) -> Result<Action, ShapeFault>
-    ensures { Reads result (one_of text_at Action.StopLoop (items_view arguments.now)) }
+fn stop_loop(alloc: Global, arguments: Elements<'_>) -> Result<Action, ShapeFault>
+    ensures { Reads result (one_of text_at Action.StopLoop (items_view arguments.entry)) }
 {
     Ok(Action::StopLoop(one_text(alloc, arguments)?))
 }
 
 #[inline(never)]
-fn when_done(alloc: Global, arguments: &[Json]) -> Result<Action, ShapeFault>
-    ensures { Reads result (two_of text_at text_at Action.WhenDone (items_view arguments.now)) }
+fn when_done(alloc: Global, arguments: Elements<'_>) -> Result<Action, ShapeFault>
+    ensures { Reads result (two_of text_at text_at Action.WhenDone (items_view arguments.entry)) }
 {
     let (name, task) = two_texts(alloc, arguments)?;
     Ok(Action::WhenDone(name, task))
 }
 
 #[inline(never)]
-fn pause_task(alloc: Global, arguments: &[Json]) -> Result<Action, ShapeFault>
-    ensures { Reads result (one_of text_at Action.PauseTask (items_view arguments.now)) }
+fn pause_task(alloc: Global, arguments: Elements<'_>) -> Result<Action, ShapeFault>
+    ensures { Reads result (one_of text_at Action.PauseTask (items_view arguments.entry)) }
 {
     Ok(Action::PauseTask(one_text(alloc, arguments)?))
 }
 
 #[inline(never)]
-fn stop_task(alloc: Global, arguments: &[Json]) -> Result<Action, ShapeFault>
-    ensures { Reads result (one_of text_at Action.StopTask (items_view arguments.now)) }
+fn stop_task(alloc: Global, arguments: Elements<'_>) -> Result<Action, ShapeFault>
+    ensures { Reads result (one_of text_at Action.StopTask (items_view arguments.entry)) }
 {
     Ok(Action::StopTask(one_text(alloc, arguments)?))
 }
 
 #[inline(never)]
-fn resume_task(alloc: Global, arguments: &[Json]) -> Result<Action, ShapeFault>
-    ensures { Reads result (one_of text_at Action.ResumeTask (items_view arguments.now)) }
+fn resume_task(alloc: Global, arguments: Elements<'_>) -> Result<Action, ShapeFault>
+    ensures { Reads result (one_of text_at Action.ResumeTask (items_view arguments.entry)) }
 {
     Ok(Action::ResumeTask(one_text(alloc, arguments)?))
 }
 
 #[inline(never)]
-fn units(arguments: &[Json]) -> Result<Action, ShapeFault>
+fn units(arguments: Elements<'_>) -> Result<Action, ShapeFault>
     ensures { Reads result
-        (one_of (number_at 1 MOST_UNITS) Action.Units (items_view arguments.now)) }
+        (one_of (number_at 1 MOST_UNITS) Action.Units (items_view arguments.entry)) }
 {
     Ok(Action::Units(one_small(arguments, 1, MOST_UNITS)?))
 }
 
 #[inline(never)]
 #[tactic(auto, unfolding(dv_forms::specs::Parts::pair))]
-fn units_in(alloc: Global, arguments: &[Json]) -> Result<Action, ShapeFault>
+fn units_in(alloc: Global, arguments: Elements<'_>) -> Result<Action, ShapeFault>
     ensures { Reads result
-        (two_of text_at (number_at 1 MOST_UNITS) Action.UnitsIn (items_view arguments.now)) }
+        (two_of text_at (number_at 1 MOST_UNITS) Action.UnitsIn (items_view arguments.entry)) }
 {
     let (name, units) = two(arguments)?;
     let name = text(alloc, name)?;
@@ -554,8 +555,8 @@ fn units_in(alloc: Global, arguments: &[Json]) -> Result<Action, ShapeFault>
 }
 
 #[inline(never)]
-fn stop_cooperator(alloc: Global, arguments: &[Json]) -> Result<Action, ShapeFault>
-    ensures { Reads result (one_of text_at Action.StopCooperator (items_view arguments.now)) }
+fn stop_cooperator(alloc: Global, arguments: Elements<'_>) -> Result<Action, ShapeFault>
+    ensures { Reads result (one_of text_at Action.StopCooperator (items_view arguments.entry)) }
 {
     Ok(Action::StopCooperator(one_text(alloc, arguments)?))
 }

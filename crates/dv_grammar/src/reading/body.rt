@@ -1,6 +1,6 @@
 ghost use Rattle.std.specs.Prelude.{[], None, Some, option_map};
 ghost use Rattle.serde_json.specs.Find.{as_str};
-ghost use Rattle.serde_json.specs.View.{view, items_view};
+ghost use Rattle.dv_document.specs.View.{view, items_view};
 ghost use Rattle.dv_forms.specs.Answer.{Reads};
 ghost use Rattle.dv_forms.specs.Parts.{each, list_at, field};
 ghost use Rattle.dv_grammar.specs.Grammar.{running};
@@ -9,6 +9,7 @@ ghost use Rattle.dv_script.specs.declared.body.End.TheVariants.{Pass};
 
 use crate::reading::action::actions;
 use crate::reading::end::end;
+use dv_document::places::{Elements, Json};
 use dv_forms::leaf::{array, fields};
 use dv_forms::shape_fault::ShapeFault;
 use dv_script::action::Action;
@@ -16,14 +17,18 @@ use dv_script::body::{Body, End};
 use dv_value::classes::Classes;
 use dv_value::items::Items;
 use dv_value::text::Text;
-use serde_json::Value as Json;
 use std::alloc::Global;
 
 /// A body, in which bodies and statements nest to `levels`, itself among them: a name nests none.
 #[cycle(shape)]
 #[tactic(auto, unfolding(crate::specs::Shape::readers, crate::specs::Shape::body_by))]
-pub fn body(alloc: Global, classes: &Classes, levels: u32, json: &Json) -> Result<Body, ShapeFault>
-    ensures { Reads result (body_at classes.now levels (view json.now)) }
+pub fn body(
+    alloc: Global,
+    classes: &Classes,
+    levels: u32,
+    json: Json<'_>,
+) -> Result<Body, ShapeFault>
+    ensures { Reads result (body_at classes.now levels (view json.entry)) }
 {
     if levels == 0 {
         return name_alone(alloc, json);
@@ -41,10 +46,10 @@ fn keyed_body(
     alloc: Global,
     classes: &Classes,
     levels: u32,
-    json: &Json,
+    json: Json<'_>,
 ) -> Result<Body, ShapeFault>
     ensures { Reads result (keyed_body_by classes.now (action_at classes.now levels)
-        (view json.now)) }
+        (view json.entry)) }
 {
     fields(json, &["do", "end"])?;
     let actions = performed(alloc, classes, levels, json.get("do"))?;
@@ -53,8 +58,8 @@ fn keyed_body(
 }
 
 /// A body by its name, and nothing else.
-fn name_alone(alloc: Global, json: &Json) -> Result<Body, ShapeFault>
-    ensures { Reads result (by_name_or (as_str (view json.now)) None) }
+fn name_alone(alloc: Global, json: Json<'_>) -> Result<Body, ShapeFault>
+    ensures { Reads result (by_name_or (as_str (view json.entry)) None) }
 {
     match json.as_str() {
         Some(name) => by_name(alloc, name),
@@ -78,12 +83,13 @@ pub fn bodies(
     alloc: Global,
     classes: &Classes,
     levels: u32,
-    items: &[Json],
+    items: Elements<'_>,
 ) -> Result<Items<Body>, ShapeFault>
-    ensures { Reads result (each (body_at classes.now levels) (items_view items.now)) }
+    ensures { Reads result (each (body_at classes.now levels) (items_view items.entry)) }
 {
     let mut bodies = Items::with_capacity(alloc, items.len())?;
-    for item in items {
+    let mut rest = items;
+    while let Some(item) = rest.next() {
         bodies.push(body(alloc, classes, levels, item)?)?;
     }
     Ok(bodies)
@@ -95,10 +101,10 @@ fn performed(
     alloc: Global,
     classes: &Classes,
     levels: u32,
-    json: Option<&Json>,
+    json: Option<Json<'_>>,
 ) -> Result<Items<Action>, ShapeFault>
     ensures { Reads result (field [] (list_at (action_at classes.now levels))
-        (option_map (λ d. view d.now) json.entry)) }
+        (option_map (λ d. view d) json.entry)) }
 {
     match json {
         None => Ok(Items::new(alloc)),
@@ -107,9 +113,9 @@ fn performed(
 }
 
 /// How a body ends that may not say it.
-fn last(alloc: Global, classes: &Classes, json: Option<&Json>) -> Result<End, ShapeFault>
+fn last(alloc: Global, classes: &Classes, json: Option<Json<'_>>) -> Result<End, ShapeFault>
     ensures { Reads result (field Pass (end_at classes.now)
-        (option_map (λ d. view d.now) json.entry)) }
+        (option_map (λ d. view d) json.entry)) }
 {
     match json {
         None => Ok(End::Pass),

@@ -1,5 +1,5 @@
 ghost use Rattle.std.specs.Prelude.{option_map, option_and_then};
-ghost use Rattle.serde_json.specs.View.{view};
+ghost use Rattle.dv_document.specs.View.{view};
 ghost use Rattle.dv_clock.specs.declared.limits.TheConstants.{MOST_DELAY};
 ghost use Rattle.dv_forms.specs.Answer.{Reads};
 ghost use Rattle.dv_forms.specs.Parts.{number_at, field};
@@ -8,16 +8,16 @@ ghost use Rattle.dv_grammar.specs.Grammar.{plain_cooperator};
 ghost use Rattle.dv_script.specs.declared.limits.TheConstants.{MOST_UNITS};
 
 use dv_clock::limits::MOST_DELAY;
+use dv_document::places::Json;
 use dv_forms::leaf::{fields, number, small};
 use dv_forms::shape_fault::ShapeFault;
 use dv_script::limits::MOST_UNITS;
 use dv_script::script::Cooperator;
-use serde_json::Value as Json;
 
 /// A cooperator that a script may leave out.
-pub fn cooperator_or_plain(json: Option<&Json>) -> Result<Cooperator, ShapeFault>
+pub fn cooperator_or_plain(json: Option<Json<'_>>) -> Result<Cooperator, ShapeFault>
     ensures { Reads result
-        (field plain_cooperator cooperator_at (option_map (λ d. view d.now) json.entry)) }
+        (field plain_cooperator cooperator_at (option_map (λ d. view d) json.entry)) }
 {
     match json {
         None => Ok(Cooperator { units: 1, delay: 1 }),
@@ -27,8 +27,8 @@ pub fn cooperator_or_plain(json: Option<&Json>) -> Result<Cooperator, ShapeFault
 
 /// A Cooperator.
 #[tactic(auto, unfolding(crate::specs::Shape::cooperator_at))]
-pub fn cooperator(json: &Json) -> Result<Cooperator, ShapeFault>
-    ensures { Reads result (cooperator_at (view json.now)) }
+pub fn cooperator(json: Json<'_>) -> Result<Cooperator, ShapeFault>
+    ensures { Reads result (cooperator_at (view json.entry)) }
 {
     fields(json, &["units", "delay"])?;
     let units = units(json.get("units"))?;
@@ -36,9 +36,9 @@ pub fn cooperator(json: &Json) -> Result<Cooperator, ShapeFault>
     Ok(Cooperator { units, delay })
 }
 
-fn units(json: Option<&Json>) -> Result<u32, ShapeFault>
+fn units(json: Option<Json<'_>>) -> Result<u32, ShapeFault>
     ensures { Reads result (option_and_then (number_at 1 MOST_UNITS)
-        (option_map (λ d. view d.now) json.entry)) }
+        (option_map (λ d. view d) json.entry)) }
 {
     match json {
         None => Err(ShapeFault::BadShape),
@@ -46,9 +46,9 @@ fn units(json: Option<&Json>) -> Result<u32, ShapeFault>
     }
 }
 
-fn delay(json: Option<&Json>) -> Result<u64, ShapeFault>
+fn delay(json: Option<Json<'_>>) -> Result<u64, ShapeFault>
     ensures { Reads result (option_and_then (number_at 1 MOST_DELAY)
-        (option_map (λ d. view d.now) json.entry)) }
+        (option_map (λ d. view d) json.entry)) }
 {
     match json {
         None => Err(ShapeFault::BadShape),

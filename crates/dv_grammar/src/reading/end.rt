@@ -1,7 +1,8 @@
-ghost use Rattle.serde_json.specs.View.{view, items_view};
+ghost use Rattle.dv_document.specs.View.{view, items_view};
 ghost use Rattle.dv_forms.specs.Answer.{Reads};
 ghost use Rattle.dv_grammar.specs.Shape.{end_at, end_of, leave_at};
 
+use dv_document::places::{Elements, Json};
 use dv_forms::arguments::{
     class_and_message, classes_and_value, one_integer, one_path, one_text, one_value,
 };
@@ -12,13 +13,12 @@ use dv_forms::words::EndWord;
 use dv_script::body::End;
 use dv_value::boxed::Boxed;
 use dv_value::classes::Classes;
-use serde_json::Value as Json;
 use std::alloc::Global;
 
 /// How a body ends.
 #[tactic(auto, unfolding(crate::specs::Shape::end_at))]
-pub fn end(alloc: Global, classes: &Classes, json: &Json) -> Result<End, ShapeFault>
-    ensures { Reads result (end_at classes.now (view json.now)) }
+pub fn end(alloc: Global, classes: &Classes, json: Json<'_>) -> Result<End, ShapeFault>
+    ensures { Reads result (end_at classes.now (view json.entry)) }
 {
     let (word, arguments) = call(json)?;
     match EndWord::named(word) {
@@ -32,9 +32,9 @@ fn end_of(
     alloc: Global,
     classes: &Classes,
     word: EndWord,
-    arguments: &[Json],
+    arguments: Elements<'_>,
 ) -> Result<End, ShapeFault>
-    ensures { Reads result (end_of classes.now word (items_view arguments.now)) }
+    ensures { Reads result (end_of classes.now word (items_view arguments.entry)) }
 {
     match word {
         EndWord::Return => Ok(End::Return(one_value(alloc, classes, arguments)?)),
@@ -59,8 +59,8 @@ fn end_of(
 
 /// How an inline body ends.
 #[tactic(auto, unfolding(crate::specs::Shape::leave_at))]
-pub fn leave(alloc: Global, classes: &Classes, json: &Json) -> Result<End, ShapeFault>
-    ensures { Reads result (leave_at classes.now (view json.now)) }
+pub fn leave(alloc: Global, classes: &Classes, json: Json<'_>) -> Result<End, ShapeFault>
+    ensures { Reads result (leave_at classes.now (view json.entry)) }
 {
     let end = end(alloc, classes, json)?;
     if may_leave(&end) {

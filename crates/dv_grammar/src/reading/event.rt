@@ -1,5 +1,5 @@
 ghost use Rattle.std.specs.Prelude.{◌≡◌, ◌++◌, option_map, OnOk};
-ghost use Rattle.serde_json.specs.View.{view, items_view};
+ghost use Rattle.dv_document.specs.View.{view, items_view};
 ghost use Rattle.dv_forms.specs.Answer.{Reads};
 ghost use Rattle.dv_grammar.specs.Grammar.{repeated};
 ghost use Rattle.dv_grammar.specs.Shape.{all_listed, event_at, event_of, events_at, listed_at};
@@ -8,6 +8,7 @@ ghost use Rattle.dv_grammar.specs.Shape.{other_event, times_of};
 use crate::reading::action::action;
 use crate::reading::outcome::expect;
 use dv_clock::limits::MOST_TICKS;
+use dv_document::places::{Elements, Json};
 use dv_forms::arguments::{one_number, one_small};
 use dv_forms::leaf::call;
 use dv_forms::repeat::repeat_of;
@@ -17,12 +18,11 @@ use dv_script::event::Event;
 use dv_script::limits::{MOST_DRAINED, MOST_LEVELS};
 use dv_value::classes::Classes;
 use dv_value::items::Items;
-use serde_json::Value as Json;
 use std::alloc::{AllocError, Global};
 
 #[tactic(auto, unfolding(crate::specs::Shape::other_event))]
-fn other_event(alloc: Global, classes: &Classes, json: &Json) -> Result<Event, ShapeFault>
-    ensures { Reads result (other_event classes.now (view json.now)) }
+fn other_event(alloc: Global, classes: &Classes, json: Json<'_>) -> Result<Event, ShapeFault>
+    ensures { Reads result (other_event classes.now (view json.entry)) }
 {
     let (word, arguments) = call(json)?;
     match EventWord::named(word) {
@@ -37,9 +37,9 @@ fn event_of(
     alloc: Global,
     classes: &Classes,
     word: EventWord,
-    arguments: &[Json],
+    arguments: Elements<'_>,
 ) -> Result<Event, ShapeFault>
-    ensures { Reads result (event_of classes.now word (items_view arguments.now)) }
+    ensures { Reads result (event_of classes.now word (items_view arguments.entry)) }
 {
     match word {
         EventWord::Advance => Ok(Event::Advance(one_number(arguments, 0, MOST_TICKS)?)),
@@ -51,8 +51,8 @@ fn event_of(
 
 /// An event: an action, or what happens to the clock or to the posts, or what is expected.
 #[tactic(auto, unfolding(crate::specs::Shape::event_at))]
-fn event(alloc: Global, classes: &Classes, json: &Json) -> Result<Event, ShapeFault>
-    ensures { Reads result (event_at classes.now (view json.now)) }
+fn event(alloc: Global, classes: &Classes, json: Json<'_>) -> Result<Event, ShapeFault>
+    ensures { Reads result (event_at classes.now (view json.entry)) }
 {
     match action(alloc, classes, MOST_LEVELS, json) {
         Ok(action) => Ok(Event::Action(action)),
@@ -80,10 +80,10 @@ fn repeated(
     expands: bool,
     levels: u32,
     times: u64,
-    items: &[Json],
+    items: Elements<'_>,
 ) -> Result<Items<Event>, ShapeFault>
     ensures { Reads result (option_map (repeated (times_of expands times))
-        (events_at expands classes.now levels (items_view items.now))) }
+        (events_at expands classes.now levels (items_view items.entry))) }
 {
     let mut all = events(alloc, classes, expands, levels, items)?;
     if !expands || times == 0 {
@@ -104,14 +104,15 @@ fn row(
     classes: &Classes,
     expands: bool,
     levels: u32,
-    items: &[Json],
+    items: Elements<'_>,
 ) -> Result<Items<Event>, ShapeFault>
     ensures { Reads result
         (all_listed (listed_at (events_at expands classes.now levels) expands classes.now)
-        (items_view items.now)) }
+        (items_view items.entry)) }
 {
     let mut events = Items::with_capacity(alloc, items.len())?;
-    for item in items {
+    let mut rest = items;
+    while let Some(item) = rest.next() {
         match repeat_of(item) {
             Some((times, list)) => {
                 let more = repeated(alloc, classes, expands, levels, times, list)?;
@@ -132,9 +133,9 @@ pub fn events(
     classes: &Classes,
     expands: bool,
     levels: u32,
-    items: &[Json],
+    items: Elements<'_>,
 ) -> Result<Items<Event>, ShapeFault>
-    ensures { Reads result (events_at expands classes.now levels (items_view items.now)) }
+    ensures { Reads result (events_at expands classes.now levels (items_view items.entry)) }
 {
     if levels == 0 {
         return Err(ShapeFault::BadShape);

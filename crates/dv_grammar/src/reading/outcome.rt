@@ -1,7 +1,8 @@
-ghost use Rattle.serde_json.specs.View.{view, items_view};
+ghost use Rattle.dv_document.specs.View.{view, items_view};
 ghost use Rattle.dv_forms.specs.Answer.{Reads};
 ghost use Rattle.dv_grammar.specs.Shape.{expect_of, outcome_at, outcome_of};
 
+use dv_document::places::{Elements, Json};
 use dv_forms::arguments::{one_fault, one_value};
 use dv_forms::leaf::{call, none, text, two};
 use dv_forms::shape_fault::ShapeFault;
@@ -9,13 +10,12 @@ use dv_forms::words::OutcomeWord;
 use dv_script::event::Event;
 use dv_script::expected::Expected;
 use dv_value::classes::Classes;
-use serde_json::Value as Json;
 use std::alloc::Global;
 
 /// What is expected of a Deferred.
 #[tactic(auto, unfolding(crate::specs::Shape::outcome_at))]
-fn outcome(alloc: Global, classes: &Classes, json: &Json) -> Result<Expected, ShapeFault>
-    ensures { Reads result (outcome_at classes.now (view json.now)) }
+fn outcome(alloc: Global, classes: &Classes, json: Json<'_>) -> Result<Expected, ShapeFault>
+    ensures { Reads result (outcome_at classes.now (view json.entry)) }
 {
     let (word, arguments) = call(json)?;
     match OutcomeWord::named(word) {
@@ -29,9 +29,9 @@ fn outcome_of(
     alloc: Global,
     classes: &Classes,
     word: OutcomeWord,
-    arguments: &[Json],
+    arguments: Elements<'_>,
 ) -> Result<Expected, ShapeFault>
-    ensures { Reads result (outcome_of classes.now word (items_view arguments.now)) }
+    ensures { Reads result (outcome_of classes.now word (items_view arguments.entry)) }
 {
     match word {
         OutcomeWord::Unfired => {
@@ -50,8 +50,12 @@ fn outcome_of(
 /// What is expected of the Deferred of a name.
 #[inline(never)]
 #[tactic(auto, unfolding(crate::specs::Shape::expect_of, dv_forms::specs::Parts::pair))]
-pub fn expect(alloc: Global, classes: &Classes, arguments: &[Json]) -> Result<Event, ShapeFault>
-    ensures { Reads result (expect_of classes.now (items_view arguments.now)) }
+pub fn expect(
+    alloc: Global,
+    classes: &Classes,
+    arguments: Elements<'_>,
+) -> Result<Event, ShapeFault>
+    ensures { Reads result (expect_of classes.now (items_view arguments.entry)) }
 {
     let (name, json) = two(arguments)?;
     let name = text(alloc, name)?;

@@ -1,5 +1,5 @@
 ghost use Rattle.std.specs.Prelude.{[], option_map, option_and_then};
-ghost use Rattle.serde_json.specs.View.{view, items_view};
+ghost use Rattle.dv_document.specs.View.{view, items_view};
 ghost use Rattle.dv_script.specs.declared.limits.TheConstants.{USUAL_LIMIT};
 ghost use Rattle.dv_forms.specs.Answer.{Reads, Gives};
 ghost use Rattle.dv_forms.specs.declared.versions.TheConstants.{LAST_VERSION};
@@ -13,6 +13,7 @@ use crate::draft::Draft;
 use crate::reading::body::{bodies, body};
 use crate::reading::cooperator::{cooperator, cooperator_or_plain};
 use crate::reading::event::events;
+use dv_document::places::{Elements, Json};
 use dv_forms::leaf::{array, fields, number, small, text, two};
 use dv_forms::limits::most_limit;
 use dv_forms::shape_fault::ShapeFault;
@@ -24,13 +25,12 @@ use dv_script::limits::{MOST_LEVELS, MOST_WORKERS, USUAL_LIMIT};
 use dv_script::script::{NamedBody, NamedCooperator, NamedPool, Script};
 use dv_value::classes::Classes;
 use dv_value::items::Items;
-use serde_json::Value as Json;
 use std::alloc::Global;
 
 /// What a script of this version lets its journal weigh.
-fn limit(version: u32, json: Option<&Json>) -> Result<u64, ShapeFault>
+fn limit(version: u32, json: Option<Json<'_>>) -> Result<u64, ShapeFault>
     ensures { Reads result (field USUAL_LIMIT (number_at 0 (most_limit version))
-        (option_map (λ d. view d.now) json.entry)) }
+        (option_map (λ d. view d) json.entry)) }
 {
     match json {
         None => Ok(USUAL_LIMIT),
@@ -41,10 +41,10 @@ fn limit(version: u32, json: Option<&Json>) -> Result<u64, ShapeFault>
 fn callers(
     alloc: Global,
     classes: &Classes,
-    json: Option<&Json>,
+    json: Option<Json<'_>>,
 ) -> Result<Items<Items<Body>>, ShapeFault>
     ensures { Reads result (field [] (list_at (caller_at classes.now))
-        (option_map (λ d. view d.now) json.entry)) }
+        (option_map (λ d. view d) json.entry)) }
 {
     match json {
         None => Ok(Items::new(alloc)),
@@ -55,19 +55,20 @@ fn callers(
 fn each_caller(
     alloc: Global,
     classes: &Classes,
-    items: &[Json],
+    items: Elements<'_>,
 ) -> Result<Items<Items<Body>>, ShapeFault>
-    ensures { Reads result (each (caller_at classes.now) (items_view items.now)) }
+    ensures { Reads result (each (caller_at classes.now) (items_view items.entry)) }
 {
     let mut callers = Items::new(alloc);
-    for item in items {
+    let mut rest = items;
+    while let Some(item) = rest.next() {
         callers.push(caller(alloc, classes, item)?)?;
     }
     Ok(callers)
 }
 
-fn caller(alloc: Global, classes: &Classes, json: &Json) -> Result<Items<Body>, ShapeFault>
-    ensures { Reads result (caller_at classes.now (view json.now)) }
+fn caller(alloc: Global, classes: &Classes, json: Json<'_>) -> Result<Items<Body>, ShapeFault>
+    ensures { Reads result (caller_at classes.now (view json.entry)) }
 {
     bodies(alloc, classes, MOST_LEVELS, array(json)?)
 }
@@ -76,10 +77,10 @@ fn all_events(
     alloc: Global,
     classes: &Classes,
     expands: bool,
-    json: Option<&Json>,
+    json: Option<Json<'_>>,
 ) -> Result<Items<Event>, ShapeFault>
     ensures { Reads result (option_and_then (events_in expands classes.now)
-        (option_map (λ d. view d.now) json.entry)) }
+        (option_map (λ d. view d) json.entry)) }
 {
     match json {
         None => Err(ShapeFault::BadShape),
@@ -88,9 +89,9 @@ fn all_events(
 }
 
 /// The version of a script.
-fn version(json: Option<&Json>) -> Result<u32, ShapeFault>
+fn version(json: Option<Json<'_>>) -> Result<u32, ShapeFault>
     ensures { Reads result (option_and_then (number_at 1 LAST_VERSION)
-        (option_map (λ d. view d.now) json.entry)) }
+        (option_map (λ d. view d) json.entry)) }
 {
     match json {
         None => Err(ShapeFault::BadShape),
@@ -99,8 +100,8 @@ fn version(json: Option<&Json>) -> Result<u32, ShapeFault>
 }
 
 /// An object with no other keys than those of a script of this version, but maybe a comment.
-fn fields_of(version: u32, json: &Json) -> Result<(), ShapeFault>
-    ensures { Gives (λ _. tt) result (fields_at (keys_of version) (view json.now)) }
+fn fields_of(version: u32, json: Json<'_>) -> Result<(), ShapeFault>
+    ensures { Gives (λ _. tt) result (fields_at (keys_of version) (view json.entry)) }
 {
     if version == 1 {
         fields(
@@ -146,8 +147,8 @@ fn fields_of(version: u32, json: &Json) -> Result<(), ShapeFault>
 }
 
 /// The pools that a script names, which it may leave out.
-fn pools(alloc: Global, json: Option<&Json>) -> Result<Items<NamedPool>, ShapeFault>
-    ensures { Reads result (field [] (list_at pool_at) (option_map (λ d. view d.now) json.entry)) }
+fn pools(alloc: Global, json: Option<Json<'_>>) -> Result<Items<NamedPool>, ShapeFault>
+    ensures { Reads result (field [] (list_at pool_at) (option_map (λ d. view d) json.entry)) }
 {
     match json {
         None => Ok(Items::new(alloc)),
@@ -155,19 +156,20 @@ fn pools(alloc: Global, json: Option<&Json>) -> Result<Items<NamedPool>, ShapeFa
     }
 }
 
-fn each_pool(alloc: Global, items: &[Json]) -> Result<Items<NamedPool>, ShapeFault>
-    ensures { Reads result (each pool_at (items_view items.now)) }
+fn each_pool(alloc: Global, items: Elements<'_>) -> Result<Items<NamedPool>, ShapeFault>
+    ensures { Reads result (each pool_at (items_view items.entry)) }
 {
     let mut pools = Items::new(alloc);
-    for item in items {
+    let mut rest = items;
+    while let Some(item) = rest.next() {
         pools.push(pool(alloc, item)?)?;
     }
     Ok(pools)
 }
 
 #[tactic(auto, unfolding(crate::specs::Shape::pool_at, dv_forms::specs::Parts::pair))]
-fn pool(alloc: Global, json: &Json) -> Result<NamedPool, ShapeFault>
-    ensures { Reads result (pool_at (view json.now)) }
+fn pool(alloc: Global, json: Json<'_>) -> Result<NamedPool, ShapeFault>
+    ensures { Reads result (pool_at (view json.entry)) }
 {
     let (name, workers) = two(array(json)?)?;
     let name = text(alloc, name)?;
@@ -178,10 +180,10 @@ fn pool(alloc: Global, json: &Json) -> Result<NamedPool, ShapeFault>
 /// The Cooperators that a script names, which it may leave out.
 fn named_cooperators(
     alloc: Global,
-    json: Option<&Json>,
+    json: Option<Json<'_>>,
 ) -> Result<Items<NamedCooperator>, ShapeFault>
     ensures { Reads result (field [] (list_at named_cooperator_at)
-        (option_map (λ d. view d.now) json.entry)) }
+        (option_map (λ d. view d) json.entry)) }
 {
     match json {
         None => Ok(Items::new(alloc)),
@@ -191,20 +193,21 @@ fn named_cooperators(
 
 fn each_named_cooperator(
     alloc: Global,
-    items: &[Json],
+    items: Elements<'_>,
 ) -> Result<Items<NamedCooperator>, ShapeFault>
-    ensures { Reads result (each named_cooperator_at (items_view items.now)) }
+    ensures { Reads result (each named_cooperator_at (items_view items.entry)) }
 {
     let mut cooperators = Items::new(alloc);
-    for item in items {
+    let mut rest = items;
+    while let Some(item) = rest.next() {
         cooperators.push(named_cooperator(alloc, item)?)?;
     }
     Ok(cooperators)
 }
 
 #[tactic(auto, unfolding(crate::specs::Shape::named_cooperator_at, dv_forms::specs::Parts::pair))]
-fn named_cooperator(alloc: Global, json: &Json) -> Result<NamedCooperator, ShapeFault>
-    ensures { Reads result (named_cooperator_at (view json.now)) }
+fn named_cooperator(alloc: Global, json: Json<'_>) -> Result<NamedCooperator, ShapeFault>
+    ensures { Reads result (named_cooperator_at (view json.entry)) }
 {
     let (name, settings) = two(array(json)?)?;
     let name = text(alloc, name)?;
@@ -216,10 +219,10 @@ fn named_cooperator(alloc: Global, json: &Json) -> Result<NamedCooperator, Shape
 fn named_bodies(
     alloc: Global,
     classes: &Classes,
-    json: Option<&Json>,
+    json: Option<Json<'_>>,
 ) -> Result<Items<NamedBody>, ShapeFault>
     ensures { Reads result (field [] (list_at (named_body_at classes.now))
-        (option_map (λ d. view d.now) json.entry)) }
+        (option_map (λ d. view d) json.entry)) }
 {
     match json {
         None => Ok(Items::new(alloc)),
@@ -230,20 +233,21 @@ fn named_bodies(
 fn each_named_body(
     alloc: Global,
     classes: &Classes,
-    items: &[Json],
+    items: Elements<'_>,
 ) -> Result<Items<NamedBody>, ShapeFault>
-    ensures { Reads result (each (named_body_at classes.now) (items_view items.now)) }
+    ensures { Reads result (each (named_body_at classes.now) (items_view items.entry)) }
 {
     let mut bodies = Items::new(alloc);
-    for item in items {
+    let mut rest = items;
+    while let Some(item) = rest.next() {
         bodies.push(named_body(alloc, classes, item)?)?;
     }
     Ok(bodies)
 }
 
 #[tactic(auto, unfolding(crate::specs::Shape::named_body_at, dv_forms::specs::Parts::pair))]
-fn named_body(alloc: Global, classes: &Classes, json: &Json) -> Result<NamedBody, ShapeFault>
-    ensures { Reads result (named_body_at classes.now (view json.now)) }
+fn named_body(alloc: Global, classes: &Classes, json: Json<'_>) -> Result<NamedBody, ShapeFault>
+    ensures { Reads result (named_body_at classes.now (view json.entry)) }
 {
     let (name, json) = two(array(json)?)?;
     let name = text(alloc, name)?;
@@ -254,8 +258,8 @@ fn named_body(alloc: Global, classes: &Classes, json: &Json) -> Result<NamedBody
 /// A script by its shape alone, in which repeats are written out, or where `expands` is false left
 /// out.
 #[tactic(auto, unfolding(crate::specs::Shape::script_by))]
-pub fn shape(alloc: Global, expands: bool, json: &Json) -> Result<Draft, ShapeFault>
-    ensures { Reads result (script_by expands (view json.now)) }
+pub fn shape(alloc: Global, expands: bool, json: Json<'_>) -> Result<Draft, ShapeFault>
+    ensures { Reads result (script_by expands (view json.entry)) }
 {
     let version = version(json.get("version"))?;
     fields_of(version, json)?;

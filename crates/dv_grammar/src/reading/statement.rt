@@ -1,10 +1,11 @@
-ghost use Rattle.serde_json.specs.View.{view, items_view};
+ghost use Rattle.dv_document.specs.View.{view, items_view};
 ghost use Rattle.dv_forms.specs.Answer.{Reads};
 ghost use Rattle.dv_forms.specs.Parts.{class_at, list_at, pair, triple, each};
 ghost use Rattle.dv_grammar.specs.Shape.{action_at, statement_at, statement_of};
 
 use crate::reading::action::action;
 use crate::reading::end::leave;
+use dv_document::places::{Elements, Json};
 use dv_forms::arguments::one_text;
 use dv_forms::leaf::{array, call, classes_in, none, one, three, two};
 use dv_forms::shape_fault::ShapeFault;
@@ -13,7 +14,6 @@ use dv_script::body::Statement;
 use dv_value::class_id::ClassId;
 use dv_value::classes::Classes;
 use dv_value::items::Items;
-use serde_json::Value as Json;
 use std::alloc::Global;
 
 /// A statement, in which bodies and statements nest to `levels`, itself among them.
@@ -23,9 +23,9 @@ pub fn statement(
     alloc: Global,
     classes: &Classes,
     levels: u32,
-    json: &Json,
+    json: Json<'_>,
 ) -> Result<Statement, ShapeFault>
-    ensures { Reads result (statement_at classes.now levels (view json.now)) }
+    ensures { Reads result (statement_at classes.now levels (view json.entry)) }
 {
     if levels == 0 {
         return Err(ShapeFault::BadShape);
@@ -44,10 +44,10 @@ fn statement_of(
     classes: &Classes,
     levels: u32,
     word: StatementWord,
-    arguments: &[Json],
+    arguments: Elements<'_>,
 ) -> Result<Statement, ShapeFault>
     ensures { Reads result (statement_of classes.now (action_at classes.now levels)
-        (statement_at classes.now levels) word (items_view arguments.now)) }
+        (statement_at classes.now levels) word (items_view arguments.entry)) }
 {
     match word {
         StatementWord::Do => Ok(Statement::Do(action(alloc, classes, levels, one(arguments)?)?)),
@@ -79,11 +79,11 @@ fn tried(
     alloc: Global,
     classes: &Classes,
     levels: u32,
-    arguments: &[Json],
+    arguments: Elements<'_>,
 ) -> Result<(Items<Statement>, Items<ClassId>, Items<Statement>), ShapeFault>
     ensures { Reads result (triple (list_at (statement_at classes.now levels))
         (list_at (class_at classes.now)) (list_at (statement_at classes.now levels))
-        (items_view arguments.now)) }
+        (items_view arguments.entry)) }
 {
     let (body, names, handler) = three(arguments)?;
     let body = statements(alloc, classes, levels, array(body)?)?;
@@ -99,10 +99,10 @@ fn finished(
     alloc: Global,
     classes: &Classes,
     levels: u32,
-    arguments: &[Json],
+    arguments: Elements<'_>,
 ) -> Result<(Items<Statement>, Items<Statement>), ShapeFault>
     ensures { Reads result (pair (list_at (statement_at classes.now levels))
-        (list_at (statement_at classes.now levels)) (items_view arguments.now)) }
+        (list_at (statement_at classes.now levels)) (items_view arguments.entry)) }
 {
     let (body, last) = two(arguments)?;
     let body = statements(alloc, classes, levels, array(body)?)?;
@@ -116,12 +116,13 @@ pub fn statements(
     alloc: Global,
     classes: &Classes,
     levels: u32,
-    items: &[Json],
+    items: Elements<'_>,
 ) -> Result<Items<Statement>, ShapeFault>
-    ensures { Reads result (each (statement_at classes.now levels) (items_view items.now)) }
+    ensures { Reads result (each (statement_at classes.now levels) (items_view items.entry)) }
 {
     let mut statements = Items::with_capacity(alloc, items.len())?;
-    for item in items {
+    let mut rest = items;
+    while let Some(item) = rest.next() {
         statements.push(statement(alloc, classes, levels, item)?)?;
     }
     Ok(statements)

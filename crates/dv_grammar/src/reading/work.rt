@@ -1,10 +1,11 @@
-ghost use Rattle.serde_json.specs.View.{view, items_view};
+ghost use Rattle.dv_document.specs.View.{view, items_view};
 ghost use Rattle.dv_clock.specs.declared.limits.TheConstants.{MOST_DELAY};
 ghost use Rattle.dv_forms.specs.Answer.{Reads};
 ghost use Rattle.dv_forms.specs.Parts.{text_at, number_at, three_of};
 ghost use Rattle.dv_grammar.specs.Shape.{work_at, work_of, thread_in_of};
 
 use dv_clock::limits::MOST_DELAY;
+use dv_document::places::{Elements, Json};
 use dv_forms::arguments::{class_and_message, one_small, one_value};
 use dv_forms::leaf::{call, four, number, text, three};
 use dv_forms::shape_fault::ShapeFault;
@@ -13,13 +14,12 @@ use dv_script::action::Action;
 use dv_script::limits::MOST_SUM;
 use dv_script::work::Work;
 use dv_value::classes::Classes;
-use serde_json::Value as Json;
 use std::alloc::Global;
 
 /// What a thread does.
 #[tactic(auto, unfolding(crate::specs::Shape::work_at))]
-pub fn work(alloc: Global, classes: &Classes, json: &Json) -> Result<Work, ShapeFault>
-    ensures { Reads result (work_at classes.now (view json.now)) }
+pub fn work(alloc: Global, classes: &Classes, json: Json<'_>) -> Result<Work, ShapeFault>
+    ensures { Reads result (work_at classes.now (view json.entry)) }
 {
     let (word, arguments) = call(json)?;
     match WorkWord::named(word) {
@@ -33,9 +33,9 @@ fn work_of(
     alloc: Global,
     classes: &Classes,
     word: WorkWord,
-    arguments: &[Json],
+    arguments: Elements<'_>,
 ) -> Result<Work, ShapeFault>
-    ensures { Reads result (work_of classes.now word (items_view arguments.now)) }
+    ensures { Reads result (work_of classes.now word (items_view arguments.entry)) }
 {
     match word {
         WorkWord::Value => Ok(Work::Value(one_value(alloc, classes, arguments)?)),
@@ -50,9 +50,13 @@ fn work_of(
 /// A work that a thread does.
 #[inline(never)]
 #[tactic(auto, unfolding(dv_forms::specs::Parts::triple))]
-pub fn thread(alloc: Global, classes: &Classes, arguments: &[Json]) -> Result<Action, ShapeFault>
+pub fn thread(
+    alloc: Global,
+    classes: &Classes,
+    arguments: Elements<'_>,
+) -> Result<Action, ShapeFault>
     ensures { Reads result (three_of text_at (number_at 0 MOST_DELAY)
-        (work_at classes.now) Action.Thread (items_view arguments.now)) }
+        (work_at classes.now) Action.Thread (items_view arguments.entry)) }
 {
     let (name, delay, json) = three(arguments)?;
     let name = text(alloc, name)?;
@@ -64,8 +68,12 @@ pub fn thread(alloc: Global, classes: &Classes, arguments: &[Json]) -> Result<Ac
 /// A work that a thread of a pool does.
 #[inline(never)]
 #[tactic(auto, unfolding(crate::specs::Shape::thread_in_of))]
-pub fn thread_in(alloc: Global, classes: &Classes, arguments: &[Json]) -> Result<Action, ShapeFault>
-    ensures { Reads result (thread_in_of classes.now (items_view arguments.now)) }
+pub fn thread_in(
+    alloc: Global,
+    classes: &Classes,
+    arguments: Elements<'_>,
+) -> Result<Action, ShapeFault>
+    ensures { Reads result (thread_in_of classes.now (items_view arguments.entry)) }
 {
     let (name, pool, delay, json) = four(arguments)?;
     let name = text(alloc, name)?;

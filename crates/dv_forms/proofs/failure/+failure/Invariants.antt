@@ -1,8 +1,9 @@
-use Rattle.std.proofs.Common.{◌≡◌}
-use Rattle.serde_json.specs.View.{members_view}
-use Rattle.dv_forms.specs.Parts.{sub_at}
+use Rattle.std.proofs.Common.{◌+◌, ◌*◌}
+use Rattle.dv_document.specs.View.{json_left}
 use Rattle.dv_forms.proofs.failure.+failure.Given as goal
 
-abbrev pub invariant-sub-loop-key : goal.invariant-sub-loop-key
-invariant-sub-loop-key l =
-    sub_at l.classes (members_view l.key-iterator) ≡ sub_at l.classes (members_view l.members.entries)
+abbrev pub decreases-failure : goal.decreases-failure
+decreases-failure l = 2 * json_left l.json + 1
+
+abbrev pub decreases-sub : goal.decreases-sub
+decreases-sub l = 2 * json_left l.json

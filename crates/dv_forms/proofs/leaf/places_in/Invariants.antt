@@ -1,5 +1,5 @@
-use Rattle.std.proofs.Common.{◌≡◌, drop}
-use Rattle.serde_json.specs.View.{items_view}
+use Rattle.std.proofs.Common.{◌≡◌}
+use Rattle.dv_document.specs.View.{items_view, items_left}
 use Rattle.dv_script.specs.declared.limits.TheConstants.{MOST_PLACE}
 use Rattle.dv_forms.specs.Answer.{with_front}
 use Rattle.dv_forms.specs.Parts.{each, number_at}
@@ -7,5 +7,8 @@ use Rattle.dv_forms.proofs.leaf.places_in.Given as goal
 
 abbrev pub invariant-loop-item : goal.invariant-loop-item
 invariant-loop-item l =
-    with_front l.places (each (number_at 0 MOST_PLACE) (items_view (drop l.item-index l.items)))
-    ≡ each (number_at 0 MOST_PLACE) (items_view l.items)
+    with_front l.places (each (number_at 0 MOST_PLACE) (items_view l.rest))
+    ≡ each (number_at 0 MOST_PLACE) (items_view l.initial.rest)
+
+abbrev pub decreases-loop-item : goal.decreases-loop-item
+decreases-loop-item l = items_left l.rest

@@ -1,5 +1,5 @@
-use Rattle.std.proofs.Common.{◌≡◌, ◌+◌, ◌*◌, drop}
-use Rattle.serde_json.specs.View.{items_view}
+use Rattle.std.proofs.Common.{◌≡◌, ◌+◌, ◌*◌}
+use Rattle.dv_document.specs.View.{items_view, items_left}
 use Rattle.dv_forms.specs.Answer.{with_front}
 use Rattle.dv_forms.specs.Parts.{each}
 use Rattle.dv_grammar.specs.Shape.{action_at, body_at, statement_at}
@@ -73,15 +73,24 @@ decreases-statement::tried l = 16 * l.levels + 2
 
 abbrev pub invariant-action::actions-loop-item : goal.invariant-action::actions-loop-item
 invariant-action::actions-loop-item l =
-    with_front l.actions (each (action_at l.classes l.levels) (items_view (drop l.item-index l.items)))
-    ≡ each (action_at l.classes l.levels) (items_view l.items)
+    with_front l.actions (each (action_at l.classes l.levels) (items_view l.rest))
+    ≡ each (action_at l.classes l.levels) (items_view l.fn.items)
 
 abbrev pub invariant-body::bodies-loop-item : goal.invariant-body::bodies-loop-item
 invariant-body::bodies-loop-item l =
-    with_front l.bodies (each (body_at l.classes l.levels) (items_view (drop l.item-index l.items)))
-    ≡ each (body_at l.classes l.levels) (items_view l.items)
+    with_front l.bodies (each (body_at l.classes l.levels) (items_view l.rest))
+    ≡ each (body_at l.classes l.levels) (items_view l.fn.items)
 
 abbrev pub invariant-statement::statements-loop-item : goal.invariant-statement::statements-loop-item
 invariant-statement::statements-loop-item l =
-    with_front l.statements (each (statement_at l.classes l.levels) (items_view (drop l.item-index l.items)))
-    ≡ each (statement_at l.classes l.levels) (items_view l.items)
+    with_front l.statements (each (statement_at l.classes l.levels) (items_view l.rest))
+    ≡ each (statement_at l.classes l.levels) (items_view l.fn.items)
+
+abbrev pub decreases-action::actions-loop-item : goal.decreases-action::actions-loop-item
+decreases-action::actions-loop-item l = items_left l.rest
+
+abbrev pub decreases-body::bodies-loop-item : goal.decreases-body::bodies-loop-item
+decreases-body::bodies-loop-item l = items_left l.rest
+
+abbrev pub decreases-statement::statements-loop-item : goal.decreases-statement::statements-loop-item
+decreases-statement::statements-loop-item l = items_left l.rest

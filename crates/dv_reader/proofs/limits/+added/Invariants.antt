@@ -1,5 +1,5 @@
-use Rattle.std.proofs.Common.{◌≡◌, ◌+◌, ◌*◌, ◌-◌, ◌^◌, ◌≤◌, min, drop}
-use Rattle.serde_json.specs.View.{items_view}
+use Rattle.std.proofs.Common.{◌≡◌, ◌+◌, ◌*◌, ◌-◌, ◌^◌, ◌≤◌, min}
+use Rattle.dv_document.specs.View.{items_view, items_left}
 use Rattle.dv_reader.specs.Limits.{added_among, added_in}
 use Rattle.dv_reader.proofs.limits.+added.Given as goal
 
@@ -18,5 +18,8 @@ decreases-added_among l = 4 * l.levels + 3
 abbrev pub invariant-added_among-loop-item : goal.invariant-added_among-loop-item
 invariant-added_among-loop-item l =
     (l.total ≤ 2 ^ 64 - 1)
-    × (min (l.total + added_among (added_in l.levels) (items_view (drop l.item-index l.items))) (2 ^ 64 - 1)
-    ≡ min (added_among (added_in l.levels) (items_view l.items)) (2 ^ 64 - 1))
+    × (min (l.total + added_among (added_in l.levels) (items_view l.rest)) (2 ^ 64 - 1)
+    ≡ min (added_among (added_in l.levels) (items_view l.fn.items)) (2 ^ 64 - 1))
+
+abbrev pub decreases-added_among-loop-item : goal.decreases-added_among-loop-item
+decreases-added_among-loop-item l = items_left l.rest

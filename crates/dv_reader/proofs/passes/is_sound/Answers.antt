@@ -1,5 +1,5 @@
 use Rattle.std.proofs.Common.{sym, ap, ◌∙◌}
-use Rattle.serde_json.specs.View.{view}
+use Rattle.dv_document.specs.View.{view}
 use Rattle.dv_questions.specs.Questions.{every}
 use Rattle.dv_reader.specs.Refusal.{answers}
 use Rattle.dv_reader.proofs.Sound.{sound}
@@ -7,7 +7,7 @@ use Rattle.dv_reader.proofs.passes.is_sound.Goals as goal
 
 pub returns : goal.returns
 returns c = λ is.
-    let d = view c.args.json.now in
+    let d = view c.args.json in
     let draft = c.args.draft.now in
     let s = draft.script in
     let v = draft.version in

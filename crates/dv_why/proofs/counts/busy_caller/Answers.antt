@@ -3,8 +3,8 @@ use Rattle.serde_json.specs.Find.{as_array}
 use Rattle.serde_json.specs.View.{view, items_view}
 use Rattle.serde_json.proofs.Views.{view-Array}
 use Rattle.dv_why.specs.Documents.{or_no_items}
-use Rattle.dv_questions.specs.Asking.{count}
-use Rattle.dv_questions.proofs.Counting.{count_items}
+use Rattle.dv_document.specs.View.{count}
+use Rattle.dv_why.proofs.Counting.{count_items}
 use Rattle.dv_why.proofs.Few.{few_all}
 use Rattle.dv_why.proofs.counts.busy_caller.Goals as goal
 

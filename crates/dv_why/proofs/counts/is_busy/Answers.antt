@@ -1,7 +1,7 @@
 use Rattle.std.proofs.Common.{◌≡◌, length, ap, ◌∙◌, nat_lt, arith}
 use Rattle.serde_json.specs.View.{view}
 use Rattle.serde_json.proofs.Views.{view-Array}
-use Rattle.dv_questions.proofs.Counting.{count_items}
+use Rattle.dv_why.proofs.Counting.{count_items}
 use Rattle.dv_why.proofs.counts.is_busy.Goals as goal
 
 pub returns-in-Array : goal.returns-in-Array

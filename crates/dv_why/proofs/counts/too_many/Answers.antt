@@ -23,7 +23,7 @@ returns-clause-wrong c =
     let small : is_small d draft ≡ true = few_small d draft c.requires.shallow c.requires.refused.1.shape (record {
       nodes =
           leb-true (all_nodes d) (most_nodes (version_in d))
-          (rw c.version_of-version.ensures at (sym c.has_few_nodes.ensures ∙ c.if-not-has_few_nodes.false));
+          (rw c.version_of-version.ensures at (sym c.in_ok-few.ensures ∙ c.if-not-few.false));
       classes = not_more MOST_CLASSES (count_in (codes "classes") d) (sym c.is_long.ensures ∙ c.if-is_long.false);
       pools = not_more MOST_POOLS (count_in (codes "pools") d) (sym c.is_long-2.ensures ∙ c.if-is_long-2.false);
       bodies = not_more MOST_BODIES (count_in (codes "bodies") d) (sym c.is_long-3.ensures ∙ c.if-is_long-3.false);

@@ -1,5 +1,5 @@
-use Rattle.std.proofs.Common.{◌≡◌, drop}
-use Rattle.serde_json.specs.View.{items_view}
+use Rattle.std.proofs.Common.{◌≡◌}
+use Rattle.dv_document.specs.View.{items_view, items_left}
 use Rattle.dv_forms.specs.Answer.{with_front}
 use Rattle.dv_forms.specs.Parts.{each}
 use Rattle.dv_grammar.specs.Shape.{named_body_at}
@@ -7,5 +7,8 @@ use Rattle.dv_grammar.proofs.reading.script.each_named_body.Given as goal
 
 abbrev pub invariant-loop-item : goal.invariant-loop-item
 invariant-loop-item l =
-    with_front l.bodies (each (named_body_at l.classes) (items_view (drop l.item-index l.items)))
-    ≡ each (named_body_at l.classes) (items_view l.items)
+    with_front l.bodies (each (named_body_at l.classes) (items_view l.rest))
+    ≡ each (named_body_at l.classes) (items_view l.fn.items)
+
+abbrev pub decreases-loop-item : goal.decreases-loop-item
+decreases-loop-item l = items_left l.rest

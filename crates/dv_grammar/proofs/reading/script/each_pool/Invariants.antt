@@ -1,5 +1,5 @@
-use Rattle.std.proofs.Common.{◌≡◌, drop}
-use Rattle.serde_json.specs.View.{items_view}
+use Rattle.std.proofs.Common.{◌≡◌}
+use Rattle.dv_document.specs.View.{items_view, items_left}
 use Rattle.dv_forms.specs.Answer.{with_front}
 use Rattle.dv_forms.specs.Parts.{each}
 use Rattle.dv_grammar.specs.Shape.{pool_at}
@@ -7,4 +7,7 @@ use Rattle.dv_grammar.proofs.reading.script.each_pool.Given as goal
 
 abbrev pub invariant-loop-item : goal.invariant-loop-item
 invariant-loop-item l =
-    with_front l.pools (each pool_at (items_view (drop l.item-index l.items))) ≡ each pool_at (items_view l.items)
+    with_front l.pools (each pool_at (items_view l.rest)) ≡ each pool_at (items_view l.fn.items)
+
+abbrev pub decreases-loop-item : goal.decreases-loop-item
+decreases-loop-item l = items_left l.rest

@@ -1,0 +1,11 @@
+pub mod Values
+pub mod Puts
+pub mod Here
+pub mod Ends
+pub mod Finding
+pub mod Depths
+pub mod Numbers
+pub mod Ranges
+pub mod Reading
+pub mod Counts
+pub mod Counted

@@ -1,0 +1,30 @@
+//! Places among the nodes of a document.
+
+ghost use Rattle.dv_document.specs.Places.{StandsAt, InArray, InObject};
+
+use json::Node;
+
+/// A value of a document. Contracts see the data that it is by `view`.
+#[derive(Clone, Copy, Drop)]
+pub struct Json<'t> {
+    pub(crate) nodes: &'t [Node<'t>],
+    pub(crate) at: usize,
+    ghost stands: { ∥ StandsAt nodes.now at ∥₁ },
+}
+
+/// The elements of an array, from one of them on. Contracts see them by `items_view`.
+#[derive(Clone, Copy, Drop)]
+pub struct Elements<'t> {
+    pub(crate) nodes: &'t [Node<'t>],
+    pub(crate) at: usize,
+    ghost inside: { ∥ InArray nodes.now at ∥₁ },
+}
+
+/// The members of an object, from one of them on, in the order of the text. Contracts see them
+/// by `members_view`, in the order of their keys.
+#[derive(Clone, Copy, Drop)]
+pub struct Members<'t> {
+    pub(crate) nodes: &'t [Node<'t>],
+    pub(crate) at: usize,
+    ghost inside: { ∥ InObject nodes.now at ∥₁ },
+}
