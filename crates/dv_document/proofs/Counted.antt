@@ -22,10 +22,9 @@ counts_here ts rest b e =
     ∥∥₁_elim b (Coded-set coded_ℕ _ _) (λ h. ap beginnings e
     ∙ counts (value_at ts) rest (subst HasUniqueKeys (sym (value_at-begins ts h.0 h.1)) h.2))
 
--- the tokens between two places
-between : (ns : List Node) (at end : ℕ) → at ≤ end
-    → map node_token (take (end - at) (drop at ns)) ++ tokens_from ns end ≡ tokens_from ns at
-between ns at end order =
+between_of : (ns : List Node) (at end : ℕ) → at ≤ end
+    → map node_token (take (end - at) (drop at ns)) ++ tokens_from (map node_token ns) end ≡ tokens_from (map node_token ns) at
+between_of ns at end order =
     let all = map node_token ns in
     let inside : map node_token (take (end - at) (drop at ns)) ≡ take (end - at) (drop at all) =
     sym (take-map node_token (end - at) (drop at ns)) ∙ ap (take (end - at)) (sym (drop-map node_token at ns)) in
@@ -35,16 +34,23 @@ between ns at end order =
     ap (λ ts. ts ++ drop end all) inside ∙ ap (λ ts. take (end - at) (drop at all) ++ ts) later
     ∙ take-append-drop (end - at) (drop at all)
 
-pub counted : (ns : List Node) (at end : ℕ) → ∥ Begins (tokens_from ns at) ∥₁
-    → Follows (tokens_from ns at) (tokens_from ns end) → at ≤ end
-    → beginnings (map node_token (take (end - at) (drop at ns))) ≡ nodes (data_at (tokens_from ns at))
-counted ns at end b follows order =
-    let ts = tokens_from ns at in
-    let here = whole ts b in
-    let rest : tokens_from ns end ≡ drop (length (json_tokens (value_at ts))) ts = follows (value_at ts) _ here in
-    let all : beginnings ts ≡ nodes (data_at ts) + beginnings (tokens_from ns end) =
-    counts_here ts (tokens_from ns end) b (here ∙ ap (λ us. json_tokens (value_at ts) ++ us) (sym rest)) in
-    let parts : beginnings ts ≡ beginnings (map node_token (take (end - at) (drop at ns))) + beginnings (tokens_from ns end) =
-    ap beginnings (sym (between ns at end order))
-    ∙ beginnings_append (map node_token (take (end - at) (drop at ns))) (tokens_from ns end) in
+-- the tokens between two places
+between : (ns : List Node) (ts : List Token) → map node_token ns ≡ ts → (at end : ℕ) → at ≤ end
+    → map node_token (take (end - at) (drop at ns)) ++ tokens_from ts end ≡ tokens_from ts at
+between ns ts e at end order =
+    subst (λ us. map node_token (take (end - at) (drop at ns)) ++ tokens_from us end ≡ tokens_from us at) e
+    (between_of ns at end order)
+
+pub counted : (ns : List Node) (ts : List Token) → map node_token ns ≡ ts → (at end : ℕ) → ∥ Begins (tokens_from ts at) ∥₁
+    → Follows (tokens_from ts at) (tokens_from ts end) → at ≤ end
+    → beginnings (map node_token (take (end - at) (drop at ns))) ≡ nodes (data_at (tokens_from ts at))
+counted ns ts e at end b follows order =
+    let us = tokens_from ts at in
+    let here = whole us b in
+    let rest : tokens_from ts end ≡ drop (length (json_tokens (value_at us))) us = follows (value_at us) _ here in
+    let all : beginnings us ≡ nodes (data_at us) + beginnings (tokens_from ts end) =
+    counts_here us (tokens_from ts end) b (here ∙ ap (λ vs. json_tokens (value_at us) ++ vs) (sym rest)) in
+    let parts : beginnings us ≡ beginnings (map node_token (take (end - at) (drop at ns))) + beginnings (tokens_from ts end) =
+    ap beginnings (sym (between ns ts e at end order))
+    ∙ beginnings_append (map node_token (take (end - at) (drop at ns))) (tokens_from ts end) in
     omega (arith, all, parts)

@@ -84,7 +84,7 @@ impl<'a> Document<'a> {
         ensures { view result ≡ data_at self.now }
     {
         Json {
-            nodes: self.tape.nodes(),
+            tape: &self.tape,
             at: 0,
         }
     }

@@ -16,15 +16,16 @@ impl<'t> Elements<'t> {
         ensures stays { result ≡ None → self.new ≡ self.old }
     {
         let at = self.at;
-        if at >= self.nodes.len() {
+        let nodes = self.tape.nodes();
+        if at >= nodes.len() {
             return None;
         }
-        if let Node::EndArray = self.nodes[at] {
+        if let Node::EndArray = nodes[at] {
             return None;
         }
-        self.at = after(self.nodes, at);
+        self.at = after(self.tape, at);
         Some(Json {
-            nodes: self.nodes,
+            tape: self.tape,
             at,
         })
     }
@@ -45,6 +46,8 @@ impl<'t> Elements<'t> {
     pub fn len(self) -> usize
         ensures { result ≡ count (items_view self.entry) }
     {
+        // (there are no more than nodes, whose number a word holds)
+        let _ = self.tape.len();
         let mut rest = self;
         let mut count = 0;
         while rest.next().is_some() {

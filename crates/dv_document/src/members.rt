@@ -19,18 +19,19 @@ impl<'t> Members<'t> {
         ensures within { IfSome result (λ member. json_left member.1 ≤ members_left self.old) }
         ensures stays { result ≡ None → self.new ≡ self.old }
     {
-        if self.at >= self.nodes.len() {
+        let nodes = self.tape.nodes();
+        if self.at >= nodes.len() {
             return None;
         }
-        let Node::Key(key) = self.nodes[self.at] else {
+        let Node::Key(key) = nodes[self.at] else {
             return None;
         };
         let at = self.at + 1;
-        self.at = after(self.nodes, at);
+        self.at = after(self.tape, at);
         Some((
             key,
             Json {
-                nodes: self.nodes,
+                tape: self.tape,
                 at,
             },
         ))

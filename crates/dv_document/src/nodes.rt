@@ -15,11 +15,12 @@ impl Json<'_> {
     pub fn count_nodes(self) -> usize
         ensures { result ≡ nodes (view self.entry) }
     {
-        if self.at >= self.nodes.len() {
+        let nodes = self.tape.nodes();
+        if self.at >= nodes.len() {
             unreachable!();
         }
-        let end = after(self.nodes, self.at);
-        count_values(&self.nodes[self.at..end])
+        let end = after(self.tape, self.at);
+        count_values(&nodes[self.at..end])
     }
 }
 

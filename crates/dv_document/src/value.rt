@@ -4,12 +4,12 @@ ghost use Rattle.json.specs.Token.{Token};
 ghost use Rattle.json.specs.Tree.{json_tokens};
 ghost use Rattle.serde_json.specs.Find.{as_array, as_bool, as_i64, as_number, as_object, as_str, as_u64, at, get};
 ghost use Rattle.dv_document.specs.Kinds.{kind_view, IsWithin};
-ghost use Rattle.dv_document.specs.Places.{Links, tokens_from};
+ghost use Rattle.dv_document.specs.Places.{tokens_from};
 ghost use Rattle.dv_document.specs.View.{view, items_left, items_view, json_left, members_left, members_view};
 
 use crate::number;
 use crate::places::{Elements, Json, Members};
-use json::Node;
+use json::{Node, Tape};
 
 /// What a value is, one level deep.
 #[derive(Clone, Copy, Drop)]
@@ -24,16 +24,15 @@ pub enum Kind<'t> {
 }
 
 /// The place after the value that begins at this one.
-pub(crate) fn after(nodes: &[Node<'_>], at: usize) -> usize
-    requires begins { at < length nodes.now }
-    requires linked { ∥ Links nodes.now ∥₁ }
+pub(crate) fn after(tape: &Tape<'_>, at: usize) -> usize
+    requires begins { at < length tape.now }
     ensures rest { (j : Read) (rest : List Token)
-        → tokens_from nodes.now at ≡ json_tokens j ++ rest
-        → tokens_from nodes.now result ≡ rest }
+        → tokens_from tape.now at ≡ json_tokens j ++ rest
+        → tokens_from tape.now result ≡ rest }
     ensures later { at < result }
-    ensures within { result ≤ length nodes.now }
+    ensures within { result ≤ length tape.now }
 {
-    match nodes[at] {
+    match tape.nodes()[at] {
         Node::Object(end) | Node::Array(end) => end,
         _ => at + 1,
     }
@@ -45,20 +44,21 @@ impl<'t> Json<'t> {
         ensures value { kind_view result ≡ view self.entry }
         ensures within { IsWithin self.entry result }
     {
-        if self.at >= self.nodes.len() {
+        let nodes = self.tape.nodes();
+        if self.at >= nodes.len() {
             unreachable!();
         }
-        match self.nodes[self.at] {
+        match nodes[self.at] {
             Node::Null => Kind::Null,
             Node::Bool(b) => Kind::Bool(b),
             Node::Number(text) => Kind::Number(text),
             Node::String(text) => Kind::String(text),
             Node::Array(_) => Kind::Array(Elements {
-                nodes: self.nodes,
+                tape: self.tape,
                 at: self.at + 1,
             }),
             Node::Object(_) => Kind::Object(Members {
-                nodes: self.nodes,
+                tape: self.tape,
                 at: self.at + 1,
             }),
             Node::EndObject | Node::EndArray | Node::Key(_) => unreachable!(),

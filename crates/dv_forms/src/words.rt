@@ -1,7 +1,7 @@
 //! The words of the language: where each may stand, what comes with it, and since which version.
 
 ghost use Rattle.std.specs.Prelude.{◌≡◌, ◌≤◌, ℕ, true, option_map, map, IfSome};
-ghost use Rattle.dv_forms.specs.declared.want.CallKind.TheVariants.{Action as action};
+ghost use Rattle.dv_forms.specs.declared.want.CallKind.TheVariants.{Action as action, Event as event};
 ghost use Rattle.dv_forms.specs.Words.{action_word, apart, end_word, event_word, has_word};
 ghost use Rattle.dv_forms.specs.Words.{may_stand, narrower, outcome_word, own_forms, seen};
 ghost use Rattle.dv_forms.specs.Words.{statement_word};
@@ -740,9 +740,8 @@ fn own_form(call: CallKind, word: &str, given: usize) -> Option<(&'static [Want]
     }
 }
 
-/// What the arguments of a word have to be, where it may stand at such a place and has a form with
-/// so many, and the first version that has this form.
-pub fn form_of(call: CallKind, word: &str, given: usize) -> Option<(&'static [Want], u32)>
+/// The same as `form_of`, by the forms at the place and then those at the narrower one.
+fn widened_form(call: CallKind, word: &str, given: usize) -> Option<(&'static [Want], u32)>
     ensures wants { option_map (λ form. form.0.now) result ≡ wants_of call word.now given }
     ensures since { IfSome result (λ form. (version : ℕ) → form.1 ≤ version
         → may_stand call word.now version ≡ true) }
@@ -753,6 +752,37 @@ pub fn form_of(call: CallKind, word: &str, given: usize) -> Option<(&'static [Wa
     match narrower(call) {
         Some(inner) => own_form(inner, word, given),
         None => None,
+    }
+}
+
+/// The same as `form_of` at the place of an event: most events are actions, so a row of an action is
+/// guessed first.
+fn event_form(word: &str, given: usize) -> Option<(&'static [Want], u32)>
+    ensures wants { option_map (λ form. form.0.now) result ≡ wants_of event word.now given }
+    ensures since { IfSome result (λ form. (version : ℕ) → form.1 ≤ version
+        → may_stand event word.now version ≡ true) }
+{
+    match likely_form(word, given) {
+        Some(form) => Some(form),
+        None => widened_form(CallKind::Event, word, given),
+    }
+}
+
+/// What the arguments of a word have to be, where it may stand at such a place and has a form with
+/// so many, and the first version that has this form.
+pub fn form_of(call: CallKind, word: &str, given: usize) -> Option<(&'static [Want], u32)>
+    ensures wants { option_map (λ form. form.0.now) result ≡ wants_of call word.now given }
+    ensures since { IfSome result (λ form. (version : ℕ) → form.1 ≤ version
+        → may_stand call word.now version ≡ true) }
+{
+    match call {
+        CallKind::Event => event_form(word, given),
+        CallKind::Action
+        | CallKind::Statement
+        | CallKind::End
+        | CallKind::Leaving
+        | CallKind::Work
+        | CallKind::Outcome => widened_form(call, word, given),
     }
 }
 

@@ -48,7 +48,12 @@ pub fn act<'s>(
         Action::AddErrback(name, body) => add(turn, itself, name.as_str(), Pair::errback(body)),
         Action::AddBoth(name, body) => add(turn, itself, name.as_str(), Pair::both(body, body)),
         Action::AddCallbacks(name, callback, errback) => {
-            add(turn, itself, name.as_str(), Pair::both(callback, errback))
+            add(
+                turn,
+                itself,
+                name.as_str(),
+                Pair::both(callback.get(), errback.get()),
+            )
         }
         Action::Chain(name, other) => chain(turn, itself, name.as_str(), other.as_str()),
         Action::Pause(name) => pause(turn, itself, name.as_str()),
@@ -62,7 +67,12 @@ pub fn act<'s>(
         Action::Acquire(name, lock) => acquire(turn, TextRef::new(name), lock.as_str()),
         Action::Release(lock) => release(turn, lock.as_str()),
         Action::RunWith(name, lock, body) => {
-            run_with(turn, TextRef::new(name), lock.as_str(), BodyRef::new(body))
+            run_with(
+                turn,
+                TextRef::new(name),
+                lock.as_str(),
+                BodyRef::new(body.get()),
+            )
         }
         Action::Maybe(name, body) => maybe(turn, name, body),
         Action::Queue(name, size, backlog) => turn.world.make_queue(name.as_str(), *size, *backlog),
@@ -87,7 +97,14 @@ pub fn act<'s>(
         }
         Action::Loop(name, of, interval, at_once, body) => {
             let (name, of) = (TextRef::new(name), TextRef::new(of));
-            start_loop(turn, name, of, *interval, *at_once, BodyRef::new(body))
+            start_loop(
+                turn,
+                name,
+                of,
+                *interval,
+                *at_once,
+                BodyRef::new(body.get()),
+            )
         }
         Action::StopLoop(name) => stop_loop(turn, name.as_str()),
         Action::Units(units) => turn.world.set_units(*units),

@@ -1,5 +1,6 @@
 use crate::body::{Body, Statement};
 use crate::work::Work;
+use dv_value::boxed::Boxed;
 use dv_value::class_id::ClassId;
 use dv_value::items::Items;
 use dv_value::text::Text;
@@ -24,6 +25,8 @@ pub enum GatherFlag {
 }
 
 /// What a script does. The names that it makes come first, then those that it looks up.
+///
+/// Where a body lies on the heap, the action would take much more room than the others with it.
 #[cycle(script)]
 #[derive(Drop)]
 pub enum Action {
@@ -40,7 +43,7 @@ pub enum Action {
     /// Adds a pair of which both are this body (Twisted: `Deferred.addBoth`).
     AddBoth(Text, Body),
     /// Adds a pair of a callback and an errback (Twisted: `Deferred.addCallbacks`).
-    AddCallbacks(Text, Body, Body),
+    AddCallbacks(Text, Boxed<Body>, Boxed<Body>),
     /// Adds a pair to the first that fires the second (Twisted: `Deferred.chainDeferred`).
     Chain(Text, Text),
     /// Pauses it once more (Twisted: `Deferred.pause`).
@@ -72,7 +75,7 @@ pub enum Action {
     Release(Text),
     /// Makes the Deferred of what the body returns while it has a token of the lock or semaphore
     /// (Twisted: `run`).
-    RunWith(Text, Text, Body),
+    RunWith(Text, Text, Boxed<Body>),
     /// Makes a queue with this size and backlog, each no bound or from 0 to 65,536 (Twisted:
     /// `DeferredQueue`).
     Queue(Text, Option<u32>, Option<u32>),
@@ -92,7 +95,7 @@ pub enum Action {
     DelayCall(Text, u64),
     /// Makes a loop and, named second, its Deferred; it performs the body each so many ticks, from
     /// 1 to 10^12, and at once where that is asked for (Twisted: `LoopingCall.start`).
-    Loop(Text, Text, u64, bool, Body),
+    Loop(Text, Text, u64, bool, Boxed<Body>),
     /// Stops the loop (Twisted: `LoopingCall.stop`).
     StopLoop(Text),
     /// Sets the most steps that each tick has from the next one on, from 1 to 1,000 (Twisted:

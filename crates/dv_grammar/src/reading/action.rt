@@ -26,6 +26,7 @@ use dv_forms::words::ActionWord;
 use dv_script::action::Action;
 use dv_script::body::Body;
 use dv_script::limits::MOST_UNITS;
+use dv_value::boxed::Boxed;
 use dv_value::classes::Classes;
 use dv_value::items::Items;
 use dv_value::text::Text;
@@ -226,8 +227,8 @@ fn add_callbacks(
 {
     let (name, callback, errback) = three(arguments)?;
     let name = text(alloc, name)?;
-    let callback = body(alloc, classes, levels, callback)?;
-    let errback = body(alloc, classes, levels, errback)?;
+    let callback = Boxed::new(alloc, body(alloc, classes, levels, callback)?)?;
+    let errback = Boxed::new(alloc, body(alloc, classes, levels, errback)?)?;
     Ok(Action::AddCallbacks(name, callback, errback))
 }
 
@@ -246,7 +247,7 @@ fn run_with(
     let (name, lock, json) = three(arguments)?;
     let name = text(alloc, name)?;
     let lock = text(alloc, lock)?;
-    let body = body(alloc, classes, levels, json)?;
+    let body = Boxed::new(alloc, body(alloc, classes, levels, json)?)?;
     Ok(Action::RunWith(name, lock, body))
 }
 
@@ -285,7 +286,7 @@ fn loop_of(
     let deferred = text(alloc, deferred)?;
     let interval = number(interval, 1, MOST_DELAY)?;
     let at_once = boolean(at_once)?;
-    let body = body(alloc, classes, levels, json)?;
+    let body = Boxed::new(alloc, body(alloc, classes, levels, json)?)?;
     Ok(Action::Loop(name, deferred, interval, at_once, body))
 }
 

@@ -1,6 +1,6 @@
-ghost use Rattle.std.specs.Prelude.{◌≡◌, ◌++◌, option_map, OnOk};
+ghost use Rattle.std.specs.Prelude.{◌≡◌, [], ◌∷◌, ◌++◌, option_map, OnOk};
 ghost use Rattle.dv_document.specs.View.{view, items_view};
-ghost use Rattle.dv_forms.specs.Answer.{Reads};
+ghost use Rattle.dv_forms.specs.Answer.{Gives, Reads};
 ghost use Rattle.dv_grammar.specs.Grammar.{repeated};
 ghost use Rattle.dv_grammar.specs.Shape.{all_listed, event_at, event_of, events_at, listed_at};
 ghost use Rattle.dv_grammar.specs.Shape.{other_event, times_of};
@@ -49,14 +49,38 @@ fn event_of(
     }
 }
 
-/// An event: an action, or what happens to the clock or to the posts, or what is expected.
+/// Adds an event at the end that is no action. It isn't inlined: the room of the event would be
+/// cleared for each action.
+#[inline(never)]
+fn add_other(
+    events: &mut Items<Event>,
+    alloc: Global,
+    classes: &Classes,
+    json: Json<'_>,
+) -> Result<(), ShapeFault>
+    ensures { Gives (λ _. events.new) result
+        (option_map (λ event. events.old ++ event ∷ [])
+        (other_event classes.now (view json.entry))) }
+{
+    Ok(events.push(other_event(alloc, classes, json)?)?)
+}
+
+/// Adds an event at the end: an action, or what happens to the clock or to the posts, or what is
+/// expected.
 #[tactic(auto, unfolding(crate::specs::Shape::event_at))]
-fn event(alloc: Global, classes: &Classes, json: Json<'_>) -> Result<Event, ShapeFault>
-    ensures { Reads result (event_at classes.now (view json.entry)) }
+fn add_event(
+    events: &mut Items<Event>,
+    alloc: Global,
+    classes: &Classes,
+    json: Json<'_>,
+) -> Result<(), ShapeFault>
+    ensures { Gives (λ _. events.new) result
+        (option_map (λ event. events.old ++ event ∷ [])
+        (event_at classes.now (view json.entry))) }
 {
     match action(alloc, classes, MOST_LEVELS, json) {
-        Ok(action) => Ok(Event::Action(action)),
-        Err(ShapeFault::BadShape) => other_event(alloc, classes, json),
+        Ok(action) => Ok(events.push(Event::Action(action))?),
+        Err(ShapeFault::BadShape) => add_other(events, alloc, classes, json),
         Err(ShapeFault::OutOfMemory) => Err(ShapeFault::OutOfMemory),
     }
 }
@@ -118,7 +142,7 @@ fn row(
                 let more = repeated(alloc, classes, expands, levels, times, list)?;
                 append(&mut events, more)?;
             }
-            None => events.push(event(alloc, classes, item)?)?,
+            None => add_event(&mut events, alloc, classes, item)?,
         }
     }
     Ok(events)

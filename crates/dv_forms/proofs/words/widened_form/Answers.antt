@@ -2,7 +2,7 @@ use Rattle.std.proofs.Common.{◌≡◌, ℕ, true, List, Option, Some, None, If
 use Rattle.std.proofs.Math.Bool.{or-true}
 use Rattle.dv_forms.specs.declared.want.CallKind.{CallKind}
 use Rattle.dv_forms.specs.Words.{has_word, may_stand, narrower, own_forms}
-use Rattle.dv_forms.proofs.words.form_of.Goals as goal
+use Rattle.dv_forms.proofs.words.widened_form.Goals as goal
 
 -- a word of the narrower place may stand at the place
 inner_stands : (c n : CallKind) (word : List ℕ) (version : ℕ) → narrower c ≡ Some n
