@@ -62,6 +62,12 @@ class Comparing(unittest.TestCase):
         found = difference(script(), ours, late)
         self.assertEqual(found and (found.entry, found.lacks, found.is_late), (None, True, True))
 
+    def test_two_answers_that_are_not_whole_differ_even_where_both_came_too_late(self) -> None:
+        late = Answer(-1, "a\n", "", Lack("no answer within 1 seconds", True))
+        self.assertEqual(
+            compared(late, late), (2, "(no answer within 1 seconds)", "(no answer within 1 seconds)")
+        )
+
     def test_lines_that_a_row_leaves_out_may_be_any_and_the_others_have_to_be_there(self) -> None:
         row = Answer(0, "a\n...\nz\n", "")
         self.assertIsNone(compared(row, Answer(0, "a\nx\ny\nz\n", "")))

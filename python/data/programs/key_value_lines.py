@@ -40,7 +40,7 @@ class Client(LineReceiver):
     def __init__(self):
         self.asked = deque()
 
-    def ask(self, line, seconds=1.0):
+    def ask(self, line, seconds=10.0):
         answer = defer.Deferred()
         self.asked.append(answer)
         self.sendLine(line.encode())
@@ -71,7 +71,7 @@ def main():
     for success, value in answers:
         print(success, value if success else value.getErrorMessage())
     try:
-        yield client.ask("WAIT 0.3", seconds=0.1)
+        yield client.ask("WAIT 2", seconds=0.1)
     except defer.TimeoutError:
         print("timed out")
     print((yield client.ask("GET a")))

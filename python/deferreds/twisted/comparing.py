@@ -37,7 +37,10 @@ class Difference(NamedTuple):
 
 
 def compared(ours: Answer, theirs: Answer) -> Optional[Tuple[int, str, str]]:
-    """The first line in which they differ, from 1, and that line of each; where one of them has ended there, how."""
+    """The first line in which they differ, from 1, and that line of each; where one of them has ended there, how.
+
+    Two answers that both aren't whole differ at their end, even where both are so for one reason.
+    """
     other = theirs.output.splitlines()
     mine = filled(ours.output.splitlines(), other)
     for place, (line, another) in enumerate(zip(mine, other)):
@@ -46,7 +49,7 @@ def compared(ours: Answer, theirs: Answer) -> Optional[Tuple[int, str, str]]:
     if len(mine) != len(other):
         place = min(len(mine), len(other))
         return place + 1, _line(mine, place, ours), _line(other, place, theirs)
-    if _end(ours) != _end(theirs):
+    if ours.lack is not None or _end(ours) != _end(theirs):
         return len(mine) + 1, ending(ours), ending(theirs)
     return None
 
