@@ -1,4 +1,4 @@
-ghost use Rattle.std.specs.Prelude.{◌≡◌, ◌<◌, ◌+◌, ◌^◌, ◌↔◌, false, OnOk, OnErr, IsErrOf};
+ghost use Rattle.std.specs.Prelude.{[], ◌≡◌, ◌<◌, ◌+◌, ◌^◌, ◌↔◌, false, OnOk, OnErr, IsErrOf};
 ghost use Rattle.dv_value.specs.Size.{size};
 ghost use Rattle.std.specs.Io.KnownBytes.{Appends};
 ghost use Rattle.dv_journal.specs.Sink.{HasFailed, AppendsPrefix};
@@ -14,7 +14,7 @@ use crate::sink::{Sink, write_all, write_when_full};
 use dv_value::classes::Classes;
 use dv_value::items::Items;
 use dv_value::value::Value;
-use std::alloc::Global;
+use std::alloc::{AllocError, Global};
 use std::marker::Model;
 
 /// What happened in a run, in order, up to a limit.
@@ -44,14 +44,16 @@ impl Model for Journal {
 }
 
 impl Journal {
-    /// No entries yet. It takes no memory before the first is written.
+    /// No entries yet. Room for as many as may come is asked for at once, up to 65,536; a page of it
+    /// takes memory once it is written to. Where room is refused, the journal grows with its
+    /// entries.
     pub fn new(alloc: Global, limit: u64) -> Journal
         requires { limit < 2 ^ 32 }
         ensures { result ≡ empty limit }
     {
         Journal {
             alloc,
-            entries: Items::new(alloc),
+            entries: with_room(alloc, limit),
             weight: 0,
             limit,
         }
@@ -151,6 +153,19 @@ impl Journal {
         }
         write_all(sink, gathered.as_bytes())?;
         Ok(())
+    }
+}
+
+/// The most entries for which room is asked at once.
+const ROOM: u64 = 65_536;
+
+/// No entries, with room for as many as a limit allows, where that isn't refused.
+fn with_room(alloc: Global, limit: u64) -> Items<Entry>
+    ensures { result ≡ [] }
+{
+    match Items::with_capacity(alloc, limit.min(ROOM) as usize) {
+        Ok(entries) => entries,
+        Err(AllocError) => Items::new(alloc),
     }
 }
 

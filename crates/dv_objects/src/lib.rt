@@ -11,6 +11,7 @@ pub mod inline_id;
 pub mod inlines;
 pub mod input;
 pub mod looping_call;
+mod name_hashers;
 pub mod names;
 pub mod pair;
 pub mod performed;

@@ -1,16 +1,16 @@
 ghost use Rattle.std.specs.Prelude.{◌≡◌, [], OnOk, OnErr};
 
+use crate::name_hashers::NameHashers;
 use indexmap::IndexMap;
 use std::alloc::{AllocError, Global};
 use std::hash::RandomState;
 use std::marker::Model;
 
-/// The names of one kind of objects, each bound to one; a name that is made again is rebound. Names
-/// are looked up by a hash with keys, since the author of a script chooses them.
+/// The names of one kind of objects, each bound to one; a name that is made again is rebound.
 #[derive(Drop)]
 pub struct Names<I> {
     alloc: Global,
-    bound: IndexMap<String, I, RandomState>,
+    bound: IndexMap<String, I, NameHashers>,
 }
 
 impl<I> Model for Names<I> {
@@ -27,13 +27,13 @@ impl<I> Model for Names<I> {
 impl<I: Copy + Drop> Names<I> {
     ghost use Rattle.dv_objects.specs.Names.{number_of, with_name};
 
-    /// No names, which are hashed with these keys. It takes no memory before the first is bound.
+    /// No names, whose hashes depend on these keys. It takes no memory before the first is bound.
     pub fn new(alloc: Global, keys: RandomState) -> Names<I>
         ensures { result ≡ [] }
     {
         Names {
             alloc,
-            bound: IndexMap::with_hasher(alloc, keys),
+            bound: IndexMap::with_hasher(alloc, NameHashers::new(keys)),
         }
     }
 

@@ -148,6 +148,27 @@ fn each_item(question: &Question<'_>, levels: u32, want: Want, items: Elements<'
     true
 }
 
+/// The same of an argument: most are leaves, which are asked without a call.
+#[cycle(ask)]
+#[tactic(auto, unfolding(crate::specs::Asking::all_suit))]
+fn argument_suits(question: &Question<'_>, levels: u32, want: Want, json: Json<'_>) -> bool
+    ensures { result ≡ all_suit (asked_by question.now) levels want (view json.entry) }
+{
+    if levels == 0 {
+        return true;
+    }
+    match want {
+        Want::Leaf(leaf) => leaf_suits(question, leaf, json),
+        Want::Other(_) => true,
+        Want::Call(_)
+        | Want::Pair(_)
+        | Want::Keyed(_)
+        | Want::Array(_)
+        | Want::Word(_)
+        | Want::Value => all_suit(question, levels, want, json),
+    }
+}
+
 #[cycle(ask)]
 fn one_for_one(question: &Question<'_>, levels: u32, wants: &[Want], items: Elements<'_>) -> bool
     ensures { result
@@ -158,7 +179,7 @@ fn one_for_one(question: &Question<'_>, levels: u32, wants: &[Want], items: Elem
         let Some((item, after)) = rest.split_first() else {
             return true;
         };
-        if !all_suit(question, levels, *want, item) {
+        if !argument_suits(question, levels, *want, item) {
             return false;
         }
         rest = after;

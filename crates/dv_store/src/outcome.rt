@@ -55,8 +55,8 @@ pub fn outcomes_of<P: Drop, K: Drop>(
 ) -> Result<Items<Outcome>, AllocError>
     ensures { IfOk result (λ outcomes. outcomes ≡ map outcome_of records.items) }
 {
-    let mut outcomes = Items::new(alloc);
     let mut left = records;
+    let mut outcomes = Items::with_capacity(alloc, left.len())?;
     left.reverse();
     while let Some(record) = left.pop() {
         outcomes.push(Outcome::of(record))?;

@@ -102,6 +102,17 @@ impl<P: Sides + Drop, K: Drop> Store<P, K> {
         }
     }
 
+    /// No records, with room for this many where that isn't refused. A page of the room takes memory
+    /// once it is written to.
+    pub fn with_capacity(alloc: Global, capacity: usize) -> Store<P, K>
+        ensures { result ≡ [] }
+    {
+        match Vec::with_capacity(alloc, capacity) {
+            Ok(records) => Store { alloc, records },
+            Err(AllocError) => Store::new(alloc),
+        }
+    }
+
     /// How many Deferreds there are.
     pub fn len(&self) -> usize
         ensures { result ≡ length self.now }

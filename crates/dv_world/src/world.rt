@@ -48,6 +48,9 @@ pub mod inlining;
 pub mod jobs;
 pub mod looping;
 
+/// The number of Deferreds for which room is asked at once.
+const FIRST_RECORDS: usize = 16_384;
+
 /// The world of a run: its Deferreds, locks, queues, lists, delayed calls, loops and tasks with
 /// their names, what inline bodies wait for, the works of its jobs, the classes of failures and the
 /// journal. Once an entry doesn't fit into the journal, or a Deferred isn't as the script expects,
@@ -198,7 +201,7 @@ impl<'s> World<'s> {
             cooperators,
             inlines: Inlines::new(alloc),
             works: Works::new(alloc),
-            store: Store::new(alloc),
+            store: Store::with_capacity(alloc, FIRST_RECORDS),
             journal: Journal::new(alloc, limit),
             stopped: false,
         })

@@ -14,13 +14,16 @@ abbrev pub decreases-member_suits : goal.decreases-member_suits
 decreases-member_suits l = 8 * l.levels + 1
 
 abbrev pub decreases-call_suits : goal.decreases-call_suits
-decreases-call_suits l = 8 * l.levels + 3
+decreases-call_suits l = 8 * l.levels + 4
 
 abbrev pub decreases-word_suits : goal.decreases-word_suits
-decreases-word_suits l = 8 * l.levels + 2
+decreases-word_suits l = 8 * l.levels + 3
 
 abbrev pub decreases-one_for_one : goal.decreases-one_for_one
-decreases-one_for_one l = 8 * l.levels + 1
+decreases-one_for_one l = 8 * l.levels + 2
+
+abbrev pub decreases-argument_suits : goal.decreases-argument_suits
+decreases-argument_suits l = 8 * l.levels + 1
 
 abbrev pub decreases-each_item : goal.decreases-each_item
 decreases-each_item l = 8 * l.levels + 1
