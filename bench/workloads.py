@@ -176,7 +176,7 @@ def doubled_lists(n: int) -> Script:
 
 
 def locks(n: int) -> Script:
-    """n times three that want one lock: each gives it back in its callback, and the next one has it inside that."""
+    """n times three that want one lock: each releases it in its callback, where the next one gets it."""
     gives_back = {"do": [["release", "l"]]}
     actions = [["acquire", name, "l"] for name in "abc"] + [["addCallback", name, gives_back] for name in "cba"]
     return Script([["lock", "l"]] + again_and_again(n, actions), entries=23 * n + 2)

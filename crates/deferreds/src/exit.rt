@@ -139,7 +139,7 @@ impl Exit {
         }
     }
 
-    /// Where the words are wrong: the usage with an option, if the first word looks like one.
+    /// Where the arguments are wrong: the usage with an option, if the first word looks like one.
     pub fn wrong_words(words: &[String]) -> Exit {
         Exit {
             status: 64,

@@ -14,11 +14,11 @@ deferreds --help                   prints this
 
 A formally verified simulator of Twisted's Deferreds, on a virtual clock.
 
-WORKERS  the number of threads that do the jobs of deferToThread, 0 to 16 (0: the program's own thread does them)
+WORKERS  the number of threads that run the jobs of deferToThread, 0 to 16 (0: the program's own thread runs them)
 BATCHES  JSON in one word: an array for each drain and one for the end, in each the posts [CALLER,POST] that it takes, counted from 0
 N        the most orders that run, up to 1000000 (without it 20000)
 K        how many orders are drawn, 1 to 1000000; each may be drawn again
-S        what the draws follow from, 0 to 4294967295: the same orders for the same number
+S        the seed of the draws, 0 to 4294967295: the same seed draws the same orders
 FILE     a script as JSON; its name has a . or a / in it. None, or -, is standard input
 
 Example:
@@ -27,7 +27,7 @@ Example:
 
 Status:
 
-  0   all events were performed, or the script is accepted
+  0   all events ran, or the script is accepted
   1   the run stopped at the limit of its journal
   2   the script is refused: --why says where
   3   out of memory
@@ -36,5 +36,5 @@ Status:
   6   --orders: the orders end in several ways
   7   --orders: there are more orders than --most allows, or than 64 bits count
   8   a Deferred wasn't as the script expects
-  64  the words are wrong
+  64  the arguments are wrong
 ";

@@ -7,12 +7,12 @@ use Rattle.std.proofs.lemmas.Bool.Decides.{nat_tests, eqb_tells}
 use Rattle.std.proofs.lemmas.Map.Keys.{sorted_head, sorted_tail}
 use Rattle.std.proofs.lemmas.Map.Made.{length-remove_key}
 use Rattle.std.proofs.lemmas.Option.{slice_get-map, slice_get_within}
-use Rattle.std.specs.BTreeMap.{BTreeMap, get, insert_entry, is_at}
+use Rattle.std.specs.BTreeMap.{insert_entry, is_at}
 use Rattle.std.specs.BTreeMap.Range.{entries_between}
 use Rattle.std.specs.Cmp.{nat_cmp_is}
 use Rattle.std.specs.List.{AllByRecursion}
 use Rattle.std.specs.List.Sorted.{IsStrictlySortedBy}
-use Rattle.std.specs.Map.{keys_of, remove_entry}
+use Rattle.std.specs.Map.{keys_of, lookup, remove_entry}
 use Rattle.std.specs.Option.{option_map}
 use Rattle.std.specs.Ordering.{nat_cmp}
 use Rattle.std.specs.Set.{remove_key}
@@ -21,7 +21,7 @@ use Rattle.std.specs.declared.ops.Bound.TheVariants.{Included, Unbounded}
 use Rattle.dv_clock.specs.Laws.{NobodyIsSkipped}
 use Rattle.dv_clock.specs.Turns.{Turns, is_among, joined, left, place_of_turn, turn_of, gone_on, gone_on_by, Joined}
 use Rattle.dv_clock.specs.Turns.{tasks_of, stepped, found_from, turn_from, number_of, AreBelow, AreOnce, IsKept}
-use Rattle.dv_clock.specs.Turns.{FindsToo}
+use Rattle.dv_clock.specs.Turns.{FindsToo, IsReady, turn_with, turn_without, has_turn}
 
 -- what is looked for from a number on begins after those below it
 from_is : (a b : ℕ) → is_at (nat_cmp a) b ≡ nat_eq a b
@@ -281,7 +281,7 @@ once_more given task (j ∷ order) h k =
     (joins_beside given task j.1 order (other_way j.1 task ∙ parts.0) ∙ k.0, once_more given task order parts.1 k.1)
 
 -- what is kept when a task joins
-pub kept_more : (order more : List Joined) (numbers found : BTreeMap ℕ ℕ) (given next task : ℕ)
+pub kept_more : (order more : List Joined) (numbers found : List (ℕ × ℕ)) (given next task : ℕ)
     → IsKept order numbers given next → number_of task order ≡ None → more ≡ insert_entry nat_cmp order given task
     → IsStrictlySortedBy nat_cmp (keys_of more) → FindsToo numbers found task given → IsKept more found (given + 1) next
 kept_more order more numbers found given next task k h e s f =
@@ -291,10 +291,87 @@ kept_more order more numbers found given next task k h e s f =
       below = below_more given task order k.below;
       once = once_more given task order h k.once;
       found =
-          λ other. f other ∙ ap (λ (b : Bool). cond b (Some given) (get nat_cmp numbers other)) (from_is task other)
-          ∙ ap (cond (nat_eq task other) (Some given)) (k.found other) ∙ sym (found_more given task other order h);
+          λ other. f other ∙ ap (cond (nat_eq task other) (Some given)) (k.found other) ∙ sym (found_more given task other order h);
       begun = omega (arith, k.begun);
     })
+
+-- what is found from a number on is found when another has joined, last
+stays_by : (next given task : ℕ) (j e : Joined) (order : List Joined) (b : Bool)
+    → (found_from next order ≡ Some e → found_from next (order ++ (given, task) ∷ []) ≡ Some e)
+    → slice_get (j ∷ order) (if b then suc (stepped next order) else 0) ≡ Some e →
+    slice_get (j ∷ (order ++ (given, task) ∷ [])) (if b then suc (stepped next (order ++ (given, task) ∷ [])) else 0)
+    ≡ Some e
+stays_by next given task j e order true k h = k h
+stays_by next given task j e order false k h = h
+
+found_stays : (next given task : ℕ) (e : Joined) (order : List Joined) → found_from next order ≡ Some e
+    → found_from next (order ++ (given, task) ∷ []) ≡ Some e
+found_stays next given task e [] h = absurd cc
+found_stays next given task e (j ∷ order) h =
+    stays_by next given task j e order (nat_lt j.0 next) (found_stays next given task e order) h
+
+-- and where none was, that one is
+last_found_by : (next given task : ℕ) (j : Joined) (order : List Joined) (b : Bool)
+    → (found_from next order ≡ None → found_from next (order ++ (given, task) ∷ []) ≡ Some (given, task))
+    → slice_get (j ∷ order) (if b then suc (stepped next order) else 0) ≡ None →
+    slice_get (j ∷ (order ++ (given, task) ∷ [])) (if b then suc (stepped next (order ++ (given, task) ∷ [])) else 0)
+    ≡ Some (given, task)
+last_found_by next given task j order true k h = k h
+last_found_by next given task j order false k h = absurd cc
+
+last_found : (next given task : ℕ) (order : List Joined) → next ≤ given → found_from next order ≡ None
+    → found_from next (order ++ (given, task) ∷ []) ≡ Some (given, task)
+last_found next given task [] g h =
+    let no : nat_lt given next ≡ false = grind (arith, nat_tests) in
+    rw no refl
+last_found next given task (j ∷ order) g h =
+    last_found_by next given task j order (nat_lt j.0 next) (last_found next given task order g) h
+
+-- since the first has had its turn then
+passed_by : (next : ℕ) (i j : Joined) (order : List Joined) (b : Bool) → nat_lt i.0 next ≡ b
+    → slice_get (i ∷ order) (if b then suc (stepped next order) else 0) ≡ None → i ≡ j → nat_lt j.0 next ≡ true
+passed_by next i j order true e h g = subst (λ (x : Joined). nat_lt x.0 next ≡ true) g e
+passed_by next i j order false e h g = absurd cc
+
+first_passed : (next : ℕ) (j : Joined) (order : List Joined) → found_from next order ≡ None
+    → slice_get order 0 ≡ Some j → nat_lt j.0 next ≡ true
+first_passed next j [] h g = absurd cc
+first_passed next j (i ∷ order) h g =
+    let same : i ≡ j = cc in
+    passed_by next i j order (nat_lt i.0 next) refl h same
+
+with_last : (next given task : ℕ) (order : List Joined) (first : Option Joined) → slice_get order 0 ≡ first
+    → found_from next order ≡ None → turn_with next first (given, task) ≡ Some (given, task)
+with_last next given task order None g h = refl
+with_last next given task order (Some j) g h = rw (first_passed next j order h g) refl
+
+-- so whose turn it is then
+turn_more_by : (next given task : ℕ) (order : List Joined) (o : Option Joined) → next ≤ given
+    → found_from next order ≡ o →
+    turn_from (found_from next (order ++ (given, task) ∷ [])) (order ++ (given, task) ∷ [])
+    ≡ turn_with next (turn_from o order) (given, task)
+turn_more_by next given task order None g h =
+    ap (λ (o : Option Joined). turn_from o (order ++ (given, task) ∷ [])) (last_found next given task order g h)
+    ∙ sym (with_last next given task order (slice_get order 0) refl h)
+turn_more_by next given task order (Some e) g h =
+    let least = found_is next e order h in
+    let no : nat_lt e.0 next ≡ false = grind (arith, nat_tests) in
+    let kept : turn_with next (Some e) (given, task) ≡ Some e = rw no refl in
+    ap (λ (o : Option Joined). turn_from o (order ++ (given, task) ∷ [])) (found_stays next given task e order h)
+    ∙ sym kept
+
+-- what is kept when a task joins, with whose turn it is
+pub ready_more : (order more : List Joined) (numbers found : List (ℕ × ℕ)) (given next task : ℕ) (turn : Option Joined)
+    → IsReady order numbers given next turn → number_of task order ≡ None → more ≡ insert_entry nat_cmp order given task
+    → IsStrictlySortedBy nat_cmp (keys_of more) → FindsToo numbers found task given
+    → IsReady more found (given + 1) next (turn_with next turn (given, task))
+ready_more order more numbers found given next task turn r h e s f = record {
+  kept = kept_more order more numbers found given next task r.kept h e s f;
+  whose =
+      ap (λ (t : Option Joined). turn_with next t (given, task)) r.whose
+      ∙ sym (turn_more_by next given task order (found_from next order) r.kept.begun refl)
+      ∙ ap (λ (x : List Joined). turn_from (found_from next x) x) (sym (e ∙ joins_last given task order r.kept.below));
+}
 
 -- a task is among those that joined where its number is found
 pub among_is : (task : ℕ) (order : List Joined) → is_among task (tasks_of order) ≡ is_some (number_of task order)
@@ -307,7 +384,7 @@ among_is task (j ∷ order) = among_by task j order (nat_eq task j.1) (among_is 
   among_by task j order false h = h
 
 -- what contracts see when a task joins
-pub seen_more : (order more : List Joined) (numbers : BTreeMap ℕ ℕ) (given next task : ℕ)
+pub seen_more : (order more : List Joined) (numbers : List (ℕ × ℕ)) (given next task : ℕ)
     → IsKept order numbers given next → number_of task order ≡ None → more ≡ insert_entry nat_cmp order given task
     → seen more next ≡ joined task (seen order next)
 seen_more order more numbers given next task k h e =
@@ -497,10 +574,10 @@ below_less n task [] h = tt
 below_less n task (j ∷ order) h = below_less_by n task j order (nat_eq task j.1) h (below_less n task order h.1)
 
 -- what is kept when a task leaves
-pub kept_less : (order less : List Joined) (numbers found : BTreeMap ℕ ℕ) (given next task number : ℕ)
+pub kept_less : (order less : List Joined) (numbers found : List (ℕ × ℕ)) (given next task number : ℕ)
     → IsKept order numbers given next → number_of task order ≡ Some number
     → less ≡ remove_entry (is_at (nat_cmp number)) order → IsStrictlySortedBy nat_cmp (keys_of less)
-    → ((other : ℕ) → get nat_cmp found other ≡ cond (is_at (nat_cmp task) other) None (get nat_cmp numbers other))
+    → ((other : ℕ) → lookup (nat_eq other) found ≡ cond (nat_eq task other) None (lookup (nat_eq other) numbers))
     → IsKept less found given next
 kept_less order less numbers found given next task number k h e s f =
     let e' = e ∙ removed_is task number order k.ascends h in
@@ -509,8 +586,7 @@ kept_less order less numbers found given next task number k h e s f =
       below = below_less given task order k.below;
       once = once_less task order k.once;
       found =
-          λ other. f other ∙ ap (λ (b : Bool). cond b None (get nat_cmp numbers other)) (from_is task other)
-          ∙ ap (cond (nat_eq task other) None) (k.found other) ∙ sym (found_less task other order k.once);
+          λ other. f other ∙ ap (cond (nat_eq task other) None) (k.found other) ∙ sym (found_less task other order k.once);
       begun = k.begun;
     })
 
@@ -520,10 +596,91 @@ pub seen_less : (order less : List Joined) (next task number : ℕ) → IsStrict
 seen_less order less next task number s h e =
     ap (λ (x : List Joined). seen x next) (e ∙ removed_is task number order s h) ∙ seen_left order next task s
 
+-- where it isn't the turn of the task that leaves, it is the same one's turn after it
+less_found_by : (next task number : ℕ) (j e : Joined) (order : List Joined) (here low : Bool) → nat_lt j.0 next ≡ low
+    → (number_of task order ≡ Some number → found_from next order ≡ Some e → found_from next (without task order) ≡ Some e)
+    → (if here then Some j.0 else number_of task order) ≡ Some number
+    → slice_get (j ∷ order) (if low then suc (stepped next order) else 0) ≡ Some e → nat_eq e.0 number ≡ false
+    → found_from next (if here then order else j ∷ without task order) ≡ Some e
+less_found_by next task number j e order true true l k n h ne = h
+less_found_by next task number j e order true false l k n h ne =
+    let same : j ≡ e = cc in
+    let its : j.0 ≡ number = cc in
+    let yes : nat_eq e.0 number ≡ true = subst (λ (x : Joined). nat_eq x.0 number ≡ true) same (grind (arith, nat_tests)) in
+    absurd cc
+less_found_by next task number j e order false true l k n h ne = rw l (k n h)
+less_found_by next task number j e order false false l k n h ne = rw l h
+
+less_found : (next task number : ℕ) (e : Joined) (order : List Joined) → number_of task order ≡ Some number
+    → found_from next order ≡ Some e → nat_eq e.0 number ≡ false → found_from next (without task order) ≡ Some e
+less_found next task number e [] n h ne = absurd cc
+less_found next task number e (j ∷ order) n h ne =
+    less_found_by next task number j e order (nat_eq task j.1) (nat_lt j.0 next) refl
+    (λ n h. less_found next task number e order n h ne) n h ne
+
+less_none_by : (next task : ℕ) (j : Joined) (order : List Joined) (here low : Bool) → nat_lt j.0 next ≡ low
+    → (found_from next order ≡ None → found_from next (without task order) ≡ None)
+    → slice_get (j ∷ order) (if low then suc (stepped next order) else 0) ≡ None
+    → found_from next (if here then order else j ∷ without task order) ≡ None
+less_none_by next task j order true true l k h = h
+less_none_by next task j order true false l k h = absurd cc
+less_none_by next task j order false true l k h = rw l (k h)
+less_none_by next task j order false false l k h = absurd cc
+
+less_none : (next task : ℕ) (order : List Joined) → found_from next order ≡ None
+    → found_from next (without task order) ≡ None
+less_none next task [] h = refl
+less_none next task (j ∷ order) h =
+    less_none_by next task j order (nat_eq task j.1) (nat_lt j.0 next) refl (less_none next task order) h
+
+less_first_by : (task number : ℕ) (j : Joined) (order : List Joined) (here : Bool)
+    → (if here then Some j.0 else number_of task order) ≡ Some number → nat_eq j.0 number ≡ false
+    → slice_get (if here then order else j ∷ without task order) 0 ≡ Some j
+less_first_by task number j order true n ne =
+    let its : j.0 ≡ number = cc in
+    let yes : nat_eq j.0 number ≡ true = grind (arith, nat_tests) in
+    absurd cc
+less_first_by task number j order false n ne = refl
+
+less_first : (task number : ℕ) (order : List Joined) → number_of task order ≡ Some number
+    → has_turn number (slice_get order 0) ≡ false → slice_get (without task order) 0 ≡ slice_get order 0
+less_first task number [] n ne = absurd cc
+less_first task number (j ∷ order) n ne = less_first_by task number j order (nat_eq task j.1) n ne
+
+turn_less_by : (next task number : ℕ) (order : List Joined) (o : Option Joined) → number_of task order ≡ Some number
+    → found_from next order ≡ o → has_turn number (turn_from o order) ≡ false
+    → turn_from (found_from next (without task order)) (without task order) ≡ turn_from o order
+turn_less_by next task number order None n h ne =
+    ap (λ (o : Option Joined). turn_from o (without task order)) (less_none next task order h)
+    ∙ less_first task number order n ne
+turn_less_by next task number order (Some e) n h ne =
+    ap (λ (o : Option Joined). turn_from o (without task order)) (less_found next task number e order n h ne)
+
+turn_left_by : (order less : List Joined) (next task number : ℕ) (was : Option Joined) (its : Bool)
+    → was ≡ turn_from (found_from next order) order → number_of task order ≡ Some number → less ≡ without task order
+    → has_turn number was ≡ its → (if its then turn_from (found_from next less) less else was)
+    ≡ turn_from (found_from next less) less
+turn_left_by order less next task number was true w h e f = refl
+turn_left_by order less next task number was false w h e f =
+    w ∙ sym (turn_less_by next task number order (found_from next order) h refl (sym (ap (has_turn number) w) ∙ f))
+    ∙ ap (λ (x : List Joined). turn_from (found_from next x) x) (sym e)
+
+pub ready_less : (order less : List Joined) (numbers found : List (ℕ × ℕ)) (given next task number : ℕ)
+    (turn : Option Joined) → IsReady order numbers given next turn → number_of task order ≡ Some number
+    → less ≡ remove_entry (is_at (nat_cmp number)) order → IsStrictlySortedBy nat_cmp (keys_of less)
+    → ((other : ℕ) → lookup (nat_eq other) found ≡ cond (nat_eq task other) None (lookup (nat_eq other) numbers))
+    → IsReady less found given next (turn_without number turn (turn_from (found_from next less) less))
+ready_less order less numbers found given next task number turn r h e s f = record {
+  kept = kept_less order less numbers found given next task number r.kept h e s f;
+  whose =
+      turn_left_by order less next task number turn (has_turn number turn) r.whose h
+      (e ∙ removed_is task number order r.kept.ascends h) refl;
+}
+
 -- what the numbers say of a task is what the order says
-pub number_is : (order : List Joined) (numbers : BTreeMap ℕ ℕ) (given next task key : ℕ)
-    → IsKept order numbers given next → key ≡ task → get nat_cmp numbers key ≡ number_of task order
-number_is order numbers given next task key k e = ap (get nat_cmp numbers) e ∙ k.found task
+pub number_is : (order : List Joined) (numbers : List (ℕ × ℕ)) (given next task key : ℕ)
+    → IsKept order numbers given next → key ≡ task → lookup (nat_eq key) numbers ≡ number_of task order
+number_is order numbers given next task key k e = ap (λ (t : ℕ). lookup (nat_eq t) numbers) e ∙ k.found task
 
 pub is_none : (o : Option ℕ) → is_some o ≡ false → o ≡ None
 is_none None h = refl

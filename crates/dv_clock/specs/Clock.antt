@@ -9,8 +9,6 @@ use Rattle.std.specs.Ordering.{nat_cmp, ordering_then, is_gt}
 use Rattle.std.specs.declared.cmp.Ordering.{Ordering}
 use Rattle.dv_journal.specs.Journal.{fits, with_entry}
 use Rattle.dv_journal.specs.declared.entry.Entry.TheVariants as entry
-use Rattle.dv_journal.specs.declared.error.Stop.{Stop}
-use Rattle.dv_journal.specs.declared.error.Stop.TheVariants as stop
 use Rattle.dv_clock.specs.Due.{scheduling, entry_when_due}
 use Rattle.dv_clock.specs.LoopingCall.{loop_next}
 use Rattle.dv_journal.specs.Telling.{State, Told, untold, telling}

@@ -1,10 +1,9 @@
 -- Whose turn it is among tasks that join and leave (Twisted: `Cooperator`).
-use Rattle.std.specs.Prelude.{◌≡◌, ◌<◌, ◌≤◌, ◌+◌, ◌-◌, ℕ, suc, Bool, nat_eq, nat_lt, if◌then◌else◌, List, [], ◌∷◌, ◌++◌}
+use Rattle.std.specs.Prelude.{◌≡◌, ◌<◌, ◌≤◌, ◌+◌, ◌-◌, ℕ, suc, Bool, false, nat_eq, nat_lt, if◌then◌else◌, List, [], ◌∷◌, ◌++◌}
 use Rattle.std.specs.Prelude.{length, map, take, Option, None, Some, slice_get}
-use Rattle.std.specs.BTreeMap.{BTreeMap, get, is_at}
 use Rattle.std.specs.List.{list_any}
 use Rattle.std.specs.List.Sorted.{IsStrictlySortedBy}
-use Rattle.std.specs.Map.{keys_of}
+use Rattle.std.specs.Map.{keys_of, lookup}
 use Rattle.std.specs.Ordering.{nat_cmp}
 use Rattle.std.specs.Set.{remove_key}
 
@@ -74,6 +73,20 @@ abbrev pub turn_from : Option Joined → List Joined → Option Joined
 turn_from None order = slice_get order 0
 turn_from (Some j) order = Some j
 
+-- whose turn it is once another has joined, last
+abbrev pub turn_with : ℕ → Option Joined → Joined → Option Joined
+turn_with next None last = Some last
+turn_with next (Some j) last = if nat_lt j.0 next then Some last else Some j
+
+-- whether it is the turn of the one with this number
+abbrev pub has_turn : ℕ → Option Joined → Bool
+has_turn number None = false
+has_turn number (Some j) = nat_eq j.0 number
+
+-- whose turn it is once the one with a number has left, where this is found then
+abbrev pub turn_without : ℕ → Option Joined → Option Joined → Option Joined
+turn_without number was now = if has_turn number was then now else was
+
 -- the number under which a task joined
 abbrev pub number_of : ℕ → List Joined → Option ℕ
 number_of task [] = None
@@ -91,18 +104,23 @@ AreOnce (j ∷ order) = (number_of j.1 order ≡ None) × AreOnce order
 
 -- those that joined, with the numbers by which each is found, how many numbers were given, and from which on the next
 -- is looked for
-pub record IsKept (order : List Joined) (numbers : BTreeMap ℕ ℕ) (given next : ℕ) : Type 0 where
+pub record IsKept (order : List Joined) (numbers : List (ℕ × ℕ)) (given next : ℕ) : Type 0 where
   pub ascends : IsStrictlySortedBy nat_cmp (keys_of order)
   pub below : AreBelow given order
   pub once : AreOnce order
-  pub found : (task : ℕ) → get nat_cmp numbers task ≡ number_of task order
+  pub found : (task : ℕ) → lookup (nat_eq task) numbers ≡ number_of task order
   pub begun : next ≤ given
 
+-- and whose turn it is
+pub record IsReady (order : List Joined) (numbers : List (ℕ × ℕ)) (given next : ℕ) (turn : Option Joined) : Type 0 where
+  pub kept : IsKept order numbers given next
+  pub whose : turn ≡ turn_from (found_from next order) order
+
 -- a task is found by a number, and the others as before
-abbrev pub FindsToo : BTreeMap ℕ ℕ → BTreeMap ℕ ℕ → ℕ → ℕ → Type 0
+abbrev pub FindsToo : List (ℕ × ℕ) → List (ℕ × ℕ) → ℕ → ℕ → Type 0
 FindsToo old new task number =
-    (other : ℕ) → get nat_cmp new other ≡ (if is_at (nat_cmp task) other then Some number else get nat_cmp old other)
+    (other : ℕ) → lookup (nat_eq other) new ≡ (if nat_eq task other then Some number else lookup (nat_eq other) old)
 
 -- all are found as before
-abbrev pub FindsSame : BTreeMap ℕ ℕ → BTreeMap ℕ ℕ → Type 0
-FindsSame old new = (other : ℕ) → get nat_cmp new other ≡ get nat_cmp old other
+abbrev pub FindsSame : List (ℕ × ℕ) → List (ℕ × ℕ) → Type 0
+FindsSame old new = (other : ℕ) → lookup (nat_eq other) new ≡ lookup (nat_eq other) old

@@ -52,7 +52,7 @@ pub const CLASSES: [(&str, Option<&str>, u32); 22] = [
 
 /// The exit statuses of the program, and when it ends with each.
 pub const STATUSES: [(u32, &str); 10] = [
-    (0, "all events were performed, or the script is accepted"),
+    (0, "all events ran, or the script is accepted"),
     (1, "the run stopped at the limit of its journal"),
     (2, "the script is refused: --why says where"),
     (3, "out of memory"),
@@ -62,9 +62,12 @@ pub const STATUSES: [(u32, &str); 10] = [
         "the batches are refused: they aren't an order of the script's posts",
     ),
     (6, "--orders: the orders end in several ways"),
-    (7, "--orders: there are more orders than --most allows"),
+    (
+        7,
+        "--orders: there are more orders than --most allows, or than 64 bits count",
+    ),
     (8, "a Deferred wasn't as the script expects"),
-    (64, "the words are wrong"),
+    (64, "the arguments are wrong"),
 ];
 
 /// The most characters of a name.

@@ -20,7 +20,7 @@ use std::mem;
 #[derive(Drop)]
 pub struct Cooperators<'s> {
     alloc: Global,
-    names: Names<TaskId>,
+    names: Names<'s, TaskId>,
     tasks: Vec<Task<'s>>,
     all: Vec<Cooperator<'s>>,
 }

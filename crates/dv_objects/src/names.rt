@@ -7,32 +7,31 @@ use std::hash::RandomState;
 use std::marker::Model;
 
 /// The names of one kind of objects, each bound to one; a name that is made again is rebound.
+/// The names are lent by the script.
 #[derive(Drop)]
-pub struct Names<I> {
-    alloc: Global,
-    bound: IndexMap<String, I, NameHashers>,
+pub struct Names<'s, I> {
+    bound: IndexMap<&'s str, I, NameHashers>,
 }
 
-impl<I> Model for Names<I> {
-    ghost use Rattle.std.specs.Prelude.{map, string_bytes, List, ℕ};
+impl<'s, I> Model for Names<'s, I> {
+    ghost use Rattle.std.specs.Prelude.{map, List, ℕ};
     ghost use Rattle.std.specs.Coded.{codes};
 
     ghost Value = { List (List ℕ × I) };
 
     ghost coded = { Prim.hlevel (codes, I.code) };
 
-    ghost view = { λ n. map (λ e. (string_bytes e.0, e.1)) n.bound.entries };
+    ghost view = { λ n. map (λ e. (e.0.now, e.1)) n.bound.entries };
 }
 
-impl<I: Copy + Drop> Names<I> {
+impl<'s, I: Copy + Drop> Names<'s, I> {
     ghost use Rattle.dv_objects.specs.Names.{number_of, with_name};
 
     /// No names, whose hashes depend on these keys. It takes no memory before the first is bound.
-    pub fn new(alloc: Global, keys: RandomState) -> Names<I>
+    pub fn new(alloc: Global, keys: RandomState) -> Names<'s, I>
         ensures { result ≡ [] }
     {
         Names {
-            alloc,
             bound: IndexMap::with_hasher(alloc, NameHashers::new(keys)),
         }
     }
@@ -47,11 +46,10 @@ impl<I: Copy + Drop> Names<I> {
 
     /// Binds a name. Where the allocation fails, it stays bound to what it was.
     #[tactic(auto, using(crate::proofs::NamesLemmas::with_name_shown))]
-    pub fn bind(&mut self, name: &str, id: I) -> Result<(), AllocError>
+    pub fn bind(&mut self, name: &'s str, id: I) -> Result<(), AllocError>
         ensures ok { OnOk result (self.new ≡ with_name name.now id self.old) }
         ensures err { OnErr result (self.new ≡ self.old) }
     {
-        let name = String::from_str(self.alloc, name)?;
         self.bound.insert(name, id)?;
         Ok(())
     }

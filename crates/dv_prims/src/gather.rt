@@ -224,7 +224,7 @@ fn nulls(alloc: Global, number: usize) -> Result<Items<Value>, AllocError>
 fn pair(alloc: Global, first: Value, second: Value) -> Result<Value, AllocError>
     ensures { IfOk result (λ pair. pair ≡ List (first ∷ second ∷ [])) }
 {
-    let mut items = Items::new(alloc);
+    let mut items = Items::with_capacity(alloc, 2)?;
     if items.push(first).is_err() {
         drop(second);
         return Err(AllocError);

@@ -84,7 +84,7 @@ fn labels_of(
 }
 
 /// Returns the place of a Deferred that was made next, and counts its name.
-fn next_place(met: &mut Names<u64>, name: &str) -> Result<u64, AllocError>
+fn next_place<'o>(met: &mut Names<'o, u64>, name: &'o str) -> Result<u64, AllocError>
     ensures place { IfOk result (λ place. place ≡ met_of name.now met.old + 1) }
     ensures counted { OnOk result
         (met.new ≡ with_name name.now (met_of name.now met.old + 1) met.old) }

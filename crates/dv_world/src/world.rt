@@ -63,16 +63,16 @@ pub struct World<'s> {
     alloc: Global,
     classes: &'s Classes,
     declared: &'s [NamedBody],
-    names: Names<DeferredId>,
-    locks: Names<LockId>,
+    names: Names<'s, DeferredId>,
+    locks: Names<'s, LockId>,
     semaphores: Vec<Semaphore>,
-    queue_names: Names<QueueId>,
+    queue_names: Names<'s, QueueId>,
     queues: Vec<Queue>,
     lists: Vec<Gather>,
     clock: Clock,
-    call_names: Names<CallId>,
+    call_names: Names<'s, CallId>,
     bodies: Vec<BodyRef<'s>>,
-    loop_names: Names<LoopId>,
+    loop_names: Names<'s, LoopId>,
     loops: Vec<LoopingCall<'s>>,
     cooperators: Cooperators<'s>,
     inlines: Inlines<'s>,
@@ -489,7 +489,7 @@ impl<'s> World<'s> {
 
     /// Binds a name to a Deferred that was made already, and logs it.
     #[tactic(auto, unfolding(crate::specs::World::aside))]
-    pub fn bind_name(&mut self, name: &str, id: DeferredId) -> Result<(), AllocError>
+    pub fn bind_name(&mut self, name: &'s str, id: DeferredId) -> Result<(), AllocError>
         ensures { OnOk result (self.new ≡ aside (entry.Name id (Some name.now))
             (naming name.now id) self.old) }
     {
@@ -506,7 +506,7 @@ impl<'s> World<'s> {
     /// Makes a lock, and binds its name to it, also where that was bound to another (Twisted:
     /// `DeferredLock`).
     #[tactic(auto, unfolding(crate::specs::World::aside))]
-    pub fn make_lock(&mut self, name: &str) -> Result<(), AllocError>
+    pub fn make_lock(&mut self, name: &'s str) -> Result<(), AllocError>
         ensures { OnOk result (self.new ≡ aside (entry.Lock name.now)
             (with_new_lock name.now 1) self.old) }
     {
@@ -522,7 +522,7 @@ impl<'s> World<'s> {
     /// Makes a semaphore, and binds its name to it, also where that was bound to another (Twisted:
     /// `DeferredSemaphore`).
     #[tactic(auto, unfolding(crate::specs::World::aside))]
-    pub fn make_semaphore(&mut self, name: &str, tokens: u32) -> Result<(), AllocError>
+    pub fn make_semaphore(&mut self, name: &'s str, tokens: u32) -> Result<(), AllocError>
         ensures { OnOk result (self.new ≡ aside (entry.Semaphore name.now tokens)
             (with_new_lock name.now tokens) self.old) }
     {
@@ -536,7 +536,7 @@ impl<'s> World<'s> {
     }
 
     /// Adds a lock that was logged, and binds its name to it.
-    fn add_lock(&mut self, name: &str, lock: Semaphore) -> Result<(), AllocError>
+    fn add_lock(&mut self, name: &'s str, lock: Semaphore) -> Result<(), AllocError>
         ensures { OnOk result (self.new ≡ record self.old {
           objects = with_added_lock name.now lock self.old.objects;
         }) }
@@ -624,7 +624,7 @@ impl<'s> World<'s> {
     #[tactic(auto, unfolding(crate::specs::World::aside))]
     pub fn make_queue(
         &mut self,
-        name: &str,
+        name: &'s str,
         size: Option<u32>,
         backlog: Option<u32>,
     ) -> Result<(), AllocError>
@@ -641,7 +641,7 @@ impl<'s> World<'s> {
     }
 
     /// Adds a queue that was logged, and binds its name to it.
-    fn add_queue(&mut self, name: &str, queue: Queue) -> Result<(), AllocError>
+    fn add_queue(&mut self, name: &'s str, queue: Queue) -> Result<(), AllocError>
         ensures { OnOk result (self.new ≡ record self.old {
           objects = with_added_queue name.now queue self.old.objects;
         }) }

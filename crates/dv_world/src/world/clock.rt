@@ -54,7 +54,7 @@ impl<'s> World<'s> {
     }
 
     /// Keeps the body of a call that was logged, and binds its name to it.
-    fn add_call(&mut self, name: &str, call: CallId, body: BodyRef<'s>) -> Result<(), AllocError>
+    fn add_call(&mut self, name: &'s str, call: CallId, body: BodyRef<'s>) -> Result<(), AllocError>
         ensures { OnOk result (self.new ≡ record self.old {
           objects = record self.old.objects {
             call_names = with_name name.now call self.old.objects.call_names;

@@ -5,5 +5,6 @@ use Rattle.dv_objects.proofs.names.Names.find.Goals as goal
 
 pub returns : goal.returns
 returns g c =
-    c.copied.ensures ∙ c.get.ensures.value ∙ sym (number_of_shown c.args.name.now c.self.inside.bound.entries)
+    c.copied.ensures ∙ c.get.ensures.value
+    ∙ sym (number_of_shown (λ k. k.now) c.args.name.now c.self.inside.bound.entries)
     ∙ ap (number_of c.args.name.now) c.self.view_is
