@@ -1,7 +1,7 @@
 """`make_drawing [--check]`: writes `deferreds/view/drawing.html`, the page of a long run without its run. Its script has the view's
 modules as JavaScript, by which the page draws itself.
 
-With --check nothing is written. Status 0: it is written, or is what it was made from; 1: with --check, it isn't; 64: the words are wrong.
+With --check nothing is written. Status 0: it is written, or is what it was made from; 1: with --check, it isn't; 64: the arguments are wrong.
 """
 
 from __future__ import annotations

@@ -152,9 +152,9 @@ class Command(unittest.TestCase):
         with mock.patch.object(inputs, "found", lambda: stand_in):
             status, _, errors = self.run_view("--text", self.folder / "bad.json")
             hinted = self.run_view("--text", self.folder / "journal")[2]
-        said = "bad.json is refused: BadShape: at /events/0/1 stands 7; expected is a name\n"
+        said = "bad.json is refused: BadShape: at /events/0/1: found 7, expected a name\n"
         self.assertEqual((status, errors[-len(said) :], errors.count("\n")), (2, said, 1))
-        self.assertTrue(hinted.endswith("expected is a name; it looks like a journal, which is given with --journal\n"))
+        self.assertTrue(hinted.endswith("expected a name; it looks like a journal, which is given with --journal\n"))
 
     def test_a_program_that_tells_no_facts_tells_a_journal(self) -> None:
         stand_in = self.folder / "deferreds"

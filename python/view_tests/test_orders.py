@@ -375,7 +375,7 @@ class OfCommand(unittest.TestCase):
     def test_a_script_that_is_refused(self) -> None:
         status, _, errors = view("--orders", self.script(events=[["deferred", 7]]), "-o", self.folder)
         self.assertEqual((status, errors.count("\n")), (2, 1))
-        self.assertIn("s.json is refused: BadShape: at /events/0/1 stands 7", errors)
+        self.assertIn("s.json is refused: BadShape: at /events/0/1: found 7", errors)
         self.assertEqual(view("--orders", self.folder / "none.json")[0], 66)
 
     def test_words_that_do_not_go_together(self) -> None:

@@ -33,7 +33,7 @@ def pytest_addoption(parser: Any) -> None:
         "--deferreds-plain",
         metavar="KIND,..",
         default="",
-        help="tell these as the Python that they are made of, as `--plain` of deferreds-record does",
+        help="record these as the Python that they are made of, as `--plain` of deferreds-record does",
     )
 
 

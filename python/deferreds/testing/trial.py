@@ -31,7 +31,7 @@ class Options(_Options):
 
     optParameters = [
         [_OPTION, None, None, "leave a recording in this folder of each test that failed or left something behind"],
-        [_PLAIN, None, "", "tell these kinds of objects as the Python that they are made of"],
+        [_PLAIN, None, "", "record these kinds of objects as the Python that they are made of"],
     ]
 
     def postOptions(self) -> None:

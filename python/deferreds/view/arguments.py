@@ -11,7 +11,7 @@ nothing; `--json FILE` shows what `./deferreds --json` has printed. `--compare A
 which are drawn by the seed S, and writes `NAME.sample.html`. FILE may be `-`, for standard input.
 
 Status 0: shown; 2: the script is refused, and standard error has what `./deferreds --why` says of it; 3, 4, 5, 7, 70: as for `./deferreds`, 4 also
-if standard output can't be written; 64: the words are wrong; 66: what is to be shown can't be read, or isn't what
+if standard output can't be written; 64: the arguments are wrong; 66: what is to be shown can't be read, or isn't what
 it is given as; 73: the page can't be written. With several scripts it is the first status that isn't 0.
 """
 
@@ -29,7 +29,7 @@ from .names import STANDARD, TRACE
 
 
 class _Parser(argparse.ArgumentParser):
-    """Says by its status when its help can't be written, and that words are wrong where standard error can't be written.
+    """Says by its status when its help can't be written, and that arguments are wrong where standard error can't be written.
 
     Some versions of argparse go on as if all were written, and others fail.
     """
@@ -116,7 +116,7 @@ def parsed(words: List[str]) -> argparse.Namespace:
     )
     add("--most", type=int, metavar="N", help=f"with --orders: run at most N orders ({ORDERS}; {MOST_ORDERS} may be asked for)")
     add("--sample", type=int, metavar="K", help=f"with --orders: run K orders, each drawn from all (1 to {MOST_ORDERS})")
-    add("--seed", type=int, metavar="S", help=f"with --sample: what the draws follow from (0 to {MOST_SEED})")
+    add("--seed", type=int, metavar="S", help=f"with --sample: the seed of the draws (0 to {MOST_SEED})")
     add("--from", dest="first", type=int, metavar="N", help="the first line that the chart shows (1)")
     add("--to", dest="last", type=int, metavar="N", help="the last line (5000 lines at most)")
     add("scripts", nargs="*", metavar="SCRIPT", help="a script")

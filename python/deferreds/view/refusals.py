@@ -21,9 +21,10 @@ def read_refusal(told: bytes) -> Optional[str]:
 
 def _said(why: Dict[str, Any]) -> str:
     name, found, expected = _text(why, "name"), _text(why, "found"), _text(why, "expected")
-    stands = f" stands {found}" if found else ""
-    asked = f"; expected is {_cut(expected)}" if expected else ""
-    return visible(f"{name}: {_place(why)}{stands}{asked}")
+    parts = [f"found {found}"] if found else []
+    if expected:
+        parts.append(f"expected {_cut(expected)}")
+    return visible(": ".join([name, _place(why), *([", ".join(parts)] if parts else [])]))
 
 
 def _text(why: Dict[str, Any], key: str) -> str:
@@ -43,4 +44,4 @@ def _place(why: Dict[str, Any]) -> str:
     if isinstance(line, int) and isinstance(column, int) and line > 0:
         return f"at line {line}, column {column}"
     at = _text(why, "at")
-    return f"at {at}" if at else "as the whole"
+    return f"at {at}" if at else "the whole text"
