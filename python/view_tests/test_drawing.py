@@ -25,7 +25,8 @@ from . import samples
 from .stand_in import told
 from .test_browser import InBrowser
 
-_SHOWN = "[document.querySelector('main').outerHTML, document.getElementById('chart').outerHTML, getComputedStyle(document.getElementById('chart')).width]"
+#: what a page shows, with the parts of pictures that are made near what is seen, or before printing
+_SHOWN = "dispatchEvent(new Event('beforeprint')), [document.querySelector('main').outerHTML, document.getElementById('chart').outerHTML, getComputedStyle(document.getElementById('chart')).width]"
 _WHOLE = "new Promise(done => { (function look() { if ('whole' in document.body.dataset) return done(true); setTimeout(look, 20); })(); })"
 
 #: expressions of Python that mean something else in JavaScript if they are only copied; each has a value of JSON
