@@ -24,7 +24,8 @@ def _said(why: Dict[str, Any]) -> str:
     parts = [f"found {found}"] if found else []
     if expected:
         parts.append(f"expected {_cut(expected)}")
-    return visible(": ".join([name, _place(why), *([", ".join(parts)] if parts else [])]))
+    said = f": {', '.join(parts)}" if parts else ""
+    return visible(f"{name}: {_place(why)}{said}")
 
 
 def _text(why: Dict[str, Any], key: str) -> str:
