@@ -233,7 +233,7 @@ class Thing:
 class Pool(NamedTuple):
     """A pool of threads that has a name: at most so many of them do its jobs."""
 
-    threads: object
+    threads: "weakref.ReferenceType[Any]"
     thing: Thing
     workers: int
 
@@ -330,9 +330,9 @@ class Frame:
     #: how it ended, if that is noted, and for an inline body whether its end was logged
     end: Any = None
     has_fired = False
-    #: of an inline body
+    #: of an inline body: its Deferred, and whether it awaits another
     record: Optional[Record] = None
-    awaits: Optional[Deferred[Any]] = None
+    awaits = False
     #: the run in which it was begun, or gone on with
     outer: Optional["Frame"] = None
     #: what it awaited last had
@@ -419,8 +419,8 @@ class Observer:
 
     # what is seldom set: an object with few attributes of its own is made and read sooner
 
-    #: what the instruments of a kind keep of this run
-    clock: Optional[Any] = None
+    #: what the instruments of a kind keep of this run. The clock is the program's, and isn't kept alive
+    _clock: Optional["weakref.ReferenceType[Any]"] = None
     clock_base = 0.0
     #: whether a call of the clock was reset
     has_reset = False
@@ -791,14 +791,31 @@ class Observer:
 
     def has_clock(self, clock: Any) -> bool:
         """Whether this is the clock of the run. The first clock that is used is."""
-        if self.clock is None and not clock.calls:
-            self.clock, self.clock_base = clock, clock.seconds()
+        if self._clock is None and not clock.calls:
+            self.use_clock(clock)
+            self.clock_base = clock.seconds()
         return self.clock is clock
+
+    @property
+    def clock(self) -> Optional[Any]:
+        """The clock of the run, as long as the program has it."""
+        return None if self._clock is None else self._clock()
+
+    @property
+    def has_had_clock(self) -> bool:
+        """Whether the run has a clock, or had one."""
+        return self._clock is not None
+
+    def use_clock(self, clock: Any) -> None:
+        """Has this be the clock of the run."""
+        self._clock = weakref.ref(clock)
 
     def clock_calls(self) -> List[Any]:
         """The delayed calls that wait."""
-        return [] if self.clock is None else list(self.clock.calls)
+        clock = self.clock
+        return [] if clock is None else list(clock.calls)
 
     def now(self) -> float:
         """The time since the run began."""
-        return 0.0 if self.clock is None else float(self.clock.seconds() - self.clock_base)
+        clock = self.clock
+        return 0.0 if clock is None else float(clock.seconds() - self.clock_base)

@@ -4,7 +4,7 @@ from __future__ import annotations
 
 import json
 import weakref
-from typing import Any, Callable, Dict, Tuple, TypeVar, Union
+from typing import Any, Callable, Dict, Optional, Tuple, TypeVar, Union
 
 from twisted.internet.defer import FirstError
 from twisted.python.failure import Failure
@@ -190,13 +190,16 @@ class Texts:
         except Exception:
             return "<unprintable>"
 
-    def bind(self, thing: object, text: Any) -> None:
-        """Has an object shown as this text, or as the name that this object has when the run is said."""
+    def bind(self, thing: object, text: Any, owner: Optional[object] = None) -> None:
+        """Has an object shown as this text, or as the name that this object has when the run is said.
+
+        `owner` keeps it alive. One that has no weak references is shown so as long as its owner lives.
+        """
         key = id(thing)
         try:
             kept: Any = weakref.ref(thing, lambda _: self._named.pop(key, None))
         except TypeError:
-            kept = thing
+            kept = thing if owner is None else weakref.ref(owner, lambda _: self._named.pop(key, None))
         self._named[key] = (kept, text)
 
     def forget_kept(self) -> None:

@@ -901,7 +901,10 @@ def _tell_cancel(
         else:
             watcher.forwarded = held
     if deferred.called or "inline" not in watcher.kinds or not is_inline_canceller(deferred._canceller):
-        cancel(deferred)
+        try:
+            cancel(deferred)
+        finally:
+            watcher.forwarded = None  # (a subclass may not have passed it on)
         return
     _note_cancelled_inline(watcher, record)
     before = watcher.cancelling
@@ -917,7 +920,7 @@ def _note_cancelled_inline(watcher: Observer, record: Record) -> None:
     while known is not None and known.hidden_of is not None:
         known = known.hidden_of
     frame: Optional[Frame] = known.body if known is not None else None
-    awaits = frame is not None and frame.awaits is not None
+    awaits = frame is not None and frame.awaits
     entry = Entry.CANCELLED_INLINE if awaits else Entry.CANCELLED_RUNNING_INLINE
     watcher.quirk(entry)
 

@@ -101,7 +101,7 @@ def _add_await(
     came: List[bool] = []
     watcher.own(_await, watcher, deferred, record, callback, arguments, came)
     if not came:
-        frame.awaits = deferred
+        frame.awaits = True
     return True
 
 
@@ -125,7 +125,7 @@ def _await(
             return callback(value, *args, **kwargs)
         came.append(True)
         watcher.tell("run ", record)
-        frame.awaits, frame.present = None, record.outcome
+        frame.awaits, frame.present = False, record.outcome
         watcher.end_await(awaited, value, record.outcome)
         try:
             return callback(value, *args, **kwargs)

@@ -7,6 +7,7 @@ program has it do that, or in the side of a pair.
 
 from __future__ import annotations
 
+import weakref
 from typing import Any, Callable, Iterator, List, NamedTuple, Optional, Set, Tuple
 
 from ..profile import Entry
@@ -25,8 +26,8 @@ class TickCall:
         self.made_at = made_at
         self.delay = delay
         self.due = due
-        #: what the Clock has scheduled, as long as that waits
-        self.scheduled: Any = None
+        #: refers to what the Clock has scheduled, as long as that waits
+        self.scheduled: Optional["weakref.ReferenceType[Any]"] = None
         #: before which parts of lines it was scheduled, has run and was cancelled
         self.scheduled_at = scheduled_at
         self.ran_at: Optional[int] = None
@@ -34,6 +35,12 @@ class TickCall:
         #: what was done in it, and the END by which it has ended, where it raised an error
         self.notes: Notes = []
         self.raises: Any = None
+
+    @property
+    def waits(self) -> bool:
+        """Whether what the Clock has scheduled waits. If that is gone, it was cancelled."""
+        scheduled = None if self.scheduled is None else self.scheduled()
+        return scheduled is not None and bool(scheduled.active())
 
 
 class Cancelled(NamedTuple):

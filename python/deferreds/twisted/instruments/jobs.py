@@ -8,6 +8,7 @@ from __future__ import annotations
 
 import functools
 import sys
+import weakref
 from typing import Any, Callable, List, Optional
 
 from twisted.internet import threads
@@ -87,12 +88,12 @@ def _act(watcher: Observer, reactor: Any, threadpool: Any, f: Callable[[], Any])
 def _thing_of(watcher: Observer, threadpool: Any) -> Thing:
     """The name of a pool that isn't the reactor's."""
     for pool in watcher.pools:
-        if pool.threads is threadpool:
+        if pool.threads() is threadpool:
             return pool.thing
     if len(watcher.pools) == MOST_POOLS:
         watcher.problem(f"more than {MOST_POOLS} pools of threads beside the reactor's", "thread")
     workers = getattr(threadpool, "max", 1)
-    pool = Pool(threadpool, watcher.thing("pool"), min(max(workers, WORKERS[0]), WORKERS[-1]))
+    pool = Pool(weakref.ref(threadpool), watcher.thing("pool"), min(max(workers, WORKERS[0]), WORKERS[-1]))
     watcher.pools = (*watcher.pools, pool)
     return pool.thing
 

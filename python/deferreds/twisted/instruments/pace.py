@@ -309,6 +309,7 @@ def has_clock(watcher: Observer, clock: Any) -> bool:
     """Whether this Clock, or real reactor, is the clock of the run. The first that is used is."""
     if not is_real(clock):
         return watcher.has_clock(clock)
-    if watcher.clock is None:
-        watcher.clock, watcher.pace = clock, Pace(watcher, clock)
+    if not watcher.has_had_clock:
+        watcher.use_clock(clock)
+        watcher.pace = Pace(watcher, clock)
     return watcher.pace is not None and watcher.clock is clock

@@ -12,6 +12,7 @@ from __future__ import annotations
 
 import functools
 import sys
+import weakref
 from typing import Any, Callable, Dict, Iterator, List, NamedTuple, Optional, Tuple
 
 from twisted.internet import task
@@ -57,7 +58,7 @@ class Cooperating:
     """What is kept of a Cooperator of the run, or of several: one that has no tasks any more leaves its name to another of its kind."""
 
     def __init__(self, cooperator: Any, name: Optional[str] = None) -> None:
-        self.cooperator = cooperator
+        self._cooperator = weakref.ref(cooperator)
         #: its name, where the script names it
         self.thing = None if name is None else Thing(name)
         #: the actions that make its tasks, while it has none
@@ -67,6 +68,7 @@ class Cooperating:
         #: the steps of the tick that goes on
         self.steps = 0
         self.in_tick = False
+        self.is_stopped = False
         self.seen = False
         #: whether its scheduler isn't the clock of the run, so that its ticks are the only time there is
         self.alone = False
@@ -80,6 +82,11 @@ class Cooperating:
         self.delay = 0.0
         #: of a further one on a Clock: the ticks that are scheduled, the last one last
         self.calls: List[TickCall] = []
+
+    @property
+    def cooperator(self) -> Any:
+        """The program's, as long as it has that."""
+        return self._cooperator()
 
     @property
     def is_further(self) -> bool:
@@ -112,18 +119,22 @@ class Cooperating:
 
     def takes(self, made_at: Any, delay: float) -> bool:
         """Whether it can be another Cooperator, made there, whose ticks are due after so many seconds."""
-        is_idle = not (self.live or self.in_tick or self.cooperator._tasks or self.cooperator._stopped)
+        cooperator = self.cooperator
+        is_used = cooperator is not None and (cooperator._tasks or cooperator._stopped)
+        is_idle = not (is_used or self.is_stopped or self.live or self.in_tick)
         return is_idle and self.made_at == made_at and self.delay == delay
 
     def become(self, cooperator: Any) -> None:
         """Is another Cooperator from here on."""
-        self.cooperator._dv_cooperating = None
-        self.cooperator, self.place = cooperator, 0
+        before = self.cooperator
+        if before is not None:
+            before._dv_cooperating = None
+        self._cooperator, self.place = weakref.ref(cooperator), 0
 
     def keep(self, scheduled: Any) -> None:
         """A Clock has scheduled its tick."""
         if self.calls:
-            self.calls[-1].scheduled = scheduled
+            self.calls[-1].scheduled = weakref.ref(scheduled)
 
     def name_it(self, thing: Thing) -> None:
         """Has a name from the beginning of the run on."""
@@ -264,7 +275,7 @@ def _cancelling(watcher: Observer, cooperating: Cooperating, call: Callable[[], 
     """Calls what may cancel a tick that is scheduled on a Clock, and notes whether it has."""
     call()
     for waiting in cooperating.calls:
-        if not waiting.scheduled.active():
+        if not waiting.waits:
             cooperating.calls.remove(waiting)
             _cooperators(watcher).inner.cancel(watcher, waiting)
             return
@@ -305,7 +316,7 @@ def _bind(
 ) -> None:
     """A task is made in a Cooperator."""
     cooperative._dv_task = (watcher, known)
-    watcher.texts.bind(iterator, known.thing)
+    watcher.texts.bind(iterator, known.thing, cooperative)
     cooperating.live += 1
     cooperating.unnamed.append(action)
     if cooperating.thing is not None:
@@ -337,6 +348,7 @@ def _begun_stopped(watcher: Observer, cooperator: Any) -> Optional[Cooperating]:
     if not _has_room(watcher):
         return None
     cooperating = _named(watcher, cooperator, _made_at(watcher, cooperator))
+    cooperating.is_stopped = True
     _act(watcher, cooperating, Action(["stopCooperator", cooperating.thing]), watcher.tell, *_stop_line(cooperating))
     return cooperating
 
@@ -462,7 +474,7 @@ def _tell_tick_alone(watcher: Observer, cooperating: Cooperating) -> None:
     cooperating.alone = True
     if cooperating.is_further:
         _cooperators(watcher).inner.refuse("a Cooperator whose ticks are scheduled by something other than the clock of the run")
-    if watcher.clock is not None:
+    if watcher.has_had_clock:
         watcher.problem("a Cooperator beside a Clock that doesn't schedule it", cooperating.kind)
     if cooperating.cooperator._delayedCall is None:
         watcher.problem("a scheduler of a Cooperator that gives nothing to cancel", cooperating.kind)
@@ -610,7 +622,7 @@ _FAILS_LATER = "failLater"
 
 def _tell_ended(watcher: Observer, known: Known, cooperative: Any, state: Any, result: Any) -> None:
     if isinstance(state, task.TaskDone):
-        watcher.texts.bind(result, known.thing)  # other tasks may have the same iterator
+        watcher.texts.bind(result, known.thing, cooperative)  # other tasks may have the same iterator
     cooperating = known.cooperating
     inner = _inner(watcher, cooperating)
     if cooperative._completionState is not None:
@@ -750,6 +762,7 @@ def _instrumented_stop_all(self: Any) -> None:
 
 def _tell_stopped(watcher: Observer, cooperating: Cooperating) -> None:
     watcher.tell(*_stop_line(cooperating))
+    cooperating.is_stopped = True
     if len(cooperating.cooperator._tasks) > 1:
         _quirk(watcher, cooperating, Entry.TASK_LEFT_BY_STOP)
     _cancelling(watcher, cooperating, functools.partial(_stop_all, cooperating.cooperator))

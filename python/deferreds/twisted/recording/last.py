@@ -128,7 +128,7 @@ class LastRecorder(Recorder):
         for kept in (*everything, self._stood_events, self._stood_parts, self._stood_records, self._stood_begins):
             kept.clear()
         self.spots.forget()
-        self.clock = self.pace = self.cooperator = None
+        self._clock = self.pace = self.cooperator = None
 
     # Deferreds
 

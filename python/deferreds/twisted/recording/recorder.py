@@ -641,7 +641,7 @@ class Recorder(Observer):
 
 know_attributes(
     Recorder(),
-    ("is_on", "thread", "_told", "gave", "forwarded", "turn", "clock", "clock_base", "cooperator"),
+    ("is_on", "thread", "_told", "gave", "forwarded", "turn", "_clock", "clock_base", "cooperator"),
 )
 
 

@@ -134,7 +134,7 @@ class Said:
     @property
     def tick(self) -> str:
         """What a unit of the clock is, or nothing, where no clock was used."""
-        return "" if self._recorder.clock is None else _second_part(self._scale)
+        return "" if not self._recorder.has_had_clock else _second_part(self._scale)
 
     @property
     def output(self) -> str:
@@ -283,7 +283,7 @@ class Said:
 
     def _find_scale(self) -> None:
         """How many units of the clock a second has, so that all times are whole."""
-        if self._recorder.clock is None and self._recorder.cooperator is None:
+        if not self._recorder.has_had_clock and self._recorder.cooperator is None:
             return
         times = [part.seconds for part in self._recorder.parts if isinstance(part, Time)]
         times += [part.to.seconds for part in self._recorder.parts if isinstance(part, Advance) and part.is_told]
