@@ -22,8 +22,8 @@ has no entry for that, no script is kept.
 
 The status is the program's own, and a program that is ended by a signal ends this command by it. If the program ended with status 0:
 0: recorded; 65: refused; 66: nothing was recorded; 73: a file couldn't be written. With --test the status is 1 if the test failed.
-If nothing was run: 64: the arguments are wrong; 66: there is no such program; 70: Twisted isn't there or isn't known; 73: a file
-can't be written.
+If nothing was run: 4: the help can't be printed; 64: the arguments are wrong; 66: there is no such program; 70: Twisted isn't there
+or isn't known; 73: a file can't be written.
 """
 
 from __future__ import annotations
@@ -38,6 +38,7 @@ from importlib.machinery import PathFinder
 from pathlib import Path
 from typing import List, Optional, Set, Tuple
 
+from ...arguments import USAGE, Parser
 from ...checkout import as_called, command_name
 from ...view.names import PLACES
 
@@ -56,7 +57,6 @@ from ..recording.recorder import Recorder
 from ..recording.saying import Said
 from ..telling import KINDS
 
-_USAGE = 64
 _NO_PROGRAM = 66
 
 
@@ -70,7 +70,7 @@ class Refused(Exception):
 
 def _arguments(words: List[str]) -> argparse.Namespace:
     """Parses the arguments. Raises SystemExit if they are wrong, with status 64, or ask for help."""
-    parser = argparse.ArgumentParser(
+    parser = Parser(
         prog=command_name("record"),
         description=as_called(__doc__),
         formatter_class=argparse.RawDescriptionHelpFormatter,
@@ -92,10 +92,7 @@ def _arguments(words: List[str]) -> argparse.Namespace:
     )
     add("--redact", metavar="WHAT", default=SECRETS, help="hide `all` values, those that look like `secrets` (the default), or `none`")
     add("program", nargs=argparse.REMAINDER, metavar="PROGRAM [ARGS..]")
-    try:
-        parsed = parser.parse_args(_detached(words))
-    except SystemExit as exit_:
-        raise SystemExit(_USAGE if exit_.code else 0) from None
+    parsed = parser.parse_args(_detached(words))
     if parsed.program and parsed.program[0] == "--":
         del parsed.program[0]
     return parsed
@@ -128,18 +125,18 @@ def _check(arguments: argparse.Namespace) -> None:
     plain: Set[str] = set(filter(None, arguments.plain.split(",")))
     unknown = plain - KINDS
     if unknown:
-        raise Refused(_USAGE, f"--plain has no {', '.join(sorted(unknown))}: {', '.join(sorted(KINDS))}")
+        raise Refused(USAGE, f"--plain has no {', '.join(sorted(unknown))}: {', '.join(sorted(KINDS))}")
     if arguments.redact not in CHOICES:
-        raise Refused(_USAGE, f"--redact has no {arguments.redact}: {', '.join(CHOICES)}")
+        raise Refused(USAGE, f"--redact has no {arguments.redact}: {', '.join(CHOICES)}")
     if arguments.module == []:
-        raise Refused(_USAGE, "-m needs a MODULE")
+        raise Refused(USAGE, "-m needs a MODULE")
     wanted = [bool(arguments.program), bool(arguments.module), bool(arguments.test)]
     if not any(wanted):
-        raise Refused(_USAGE, "a PROGRAM, -m MODULE or --test MODULE.CLASS.METHOD is needed; --help says more")
+        raise Refused(USAGE, "a PROGRAM, -m MODULE or --test MODULE.CLASS.METHOD is needed; --help says more")
     if arguments.test and arguments.last is not None:
-        raise Refused(_USAGE, "--last is for programs and modules, and not for --test")
+        raise Refused(USAGE, "--last is for programs and modules, and not for --test")
     if wanted.count(True) > 1:
-        raise Refused(_USAGE, "one of PROGRAM, -m MODULE and --test MODULE.CLASS.METHOD is taken, and not two")
+        raise Refused(USAGE, "one of PROGRAM, -m MODULE and --test MODULE.CLASS.METHOD is taken, and not two")
 
 
 def _refuse_module(name: str) -> None:
