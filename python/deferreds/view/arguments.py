@@ -1,7 +1,8 @@
 """`./view [-o FILE] [--text] [SCRIPT..]`: runs a script, and shows what happened in which order, and what is left and
 why.
 
-Writes a page that any browser opens: SCRIPT's name with `.html`, in the folder where the command is run, or FILE.
+Writes a page that any browser opens: SCRIPT's name with `.html`, in the folder where the command is run, or FILE. Folders of FILE that
+aren't there are made.
 With several scripts FILE is a folder, and a second one of a name gets `NAME_2.html`. With `-o -` the page goes to
 standard output. `--text` prints the view instead, and `--trace` writes a trace of Chrome's. Without SCRIPT the script is standard
 input. `--journal FILE` shows a journal with its outcomes, as `./deferreds`, `./on_twisted` or `./record` prints it, and runs

@@ -6,8 +6,9 @@ is a file, or the name of a Python script on the PATH. The program runs as it is
 
 NAME.json is the script. NAME.journal is the journal and the outcomes by real Twisted. NAME.places.json says where in the program
 it happened. `--view` also writes NAME.html, a page of the run. NAME.recording lists these files. Without -o, NAME is the name of
-PROGRAM or MODULE, in the current folder. A file of another origin is only overwritten with -f. What no script can express is refused,
-with the reason and the place in the program; then NAME.json isn't written, and all other files are.
+PROGRAM or MODULE, in the current folder; `-o FOLDER/` names another folder. A file of another origin is only overwritten with -f.
+Only their owner can read the files. What no script can express is refused, with the reason and the place in the program; then
+NAME.json isn't written, and all other files are.
 
 The run is also kept if the program ends by Ctrl-C, by a signal that it doesn't handle, or by os._exit. At SIGUSR1 the run so far is
 written, and the program goes on. A forked child writes its own files, NAME.PID.json and so on. If a run is too long for a script, or
@@ -77,7 +78,7 @@ def _arguments(words: List[str]) -> argparse.Namespace:
         allow_abbrev=False,
     )
     add = parser.add_argument
-    add("-o", dest="output", metavar="NAME", help="write NAME.json and NAME.journal")
+    add("-o", dest="output", metavar="NAME", help="write NAME.json and NAME.journal; folders that aren't there are made")
     add("-f", dest="overwrites", action="store_true", help="also overwrite files that aren't those of a recording")
     add("-m", dest="module", nargs=argparse.REMAINDER, metavar="MODULE [ARGS..]", help="run a module")
     add("--test", metavar="MODULE.CLASS.METHOD", help="run one test")
@@ -177,6 +178,11 @@ def _is_python(path: str) -> bool:
     return line.startswith(b"#!") and b"python" in line
 
 
+def _name(output: Optional[str], usual: str) -> str:
+    """NAME: the one that is given, or the usual one, which stands in a folder that is given."""
+    return os.path.join(output, usual) if output and output.endswith(os.sep) else output or usual
+
+
 def _keeping(arguments: argparse.Namespace, name: str, messages: Messages) -> Keeping:
     """Where the recording is kept. Raises Refused where it can't be."""
     place = Place(name, arguments.overwrites)
@@ -189,8 +195,7 @@ def _keeping(arguments: argparse.Namespace, name: str, messages: Messages) -> Ke
 
 def _program(arguments: argparse.Namespace, messages: Messages) -> int:
     target, words = _target(arguments)
-    name = target.split(".")[-1] if arguments.module else Path(target).stem
-    name = arguments.output or name
+    name = _name(arguments.output, target.split(".")[-1] if arguments.module else Path(target).stem)
     kinds = KINDS - set(arguments.plain.split(","))
     keeping = _keeping(arguments, name, messages)
     if arguments.last is None:
@@ -214,7 +219,7 @@ def _test(arguments: argparse.Namespace, messages: Messages) -> int:
         raise Refused(_NO_PROGRAM, str(why)) from None
     if len(found) != 1:
         raise Refused(_NO_PROGRAM, f"{arguments.test} isn't one test")
-    keeping = _keeping(arguments, arguments.output or found[0][1], messages)
+    keeping = _keeping(arguments, _name(arguments.output, found[0][1]), messages)
     best: Optional[Tuple[TestRun, Said]] = None
     ladder = [KINDS - set(arguments.plain.split(","))] if arguments.plain else LADDER
     for kinds in ladder:
