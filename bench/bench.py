@@ -21,6 +21,11 @@ from measuring import Callgrind, Meter, NotMeasured, Stopwatch, peak_memory
 from tables import Table, growth_table, measured_table, pairs_table
 from workloads import WORKLOADS, Workload
 
+sys.path.insert(0, str(Path(__file__).resolve().parent.parent / "python"))
+
+from deferreds.arguments import Parser  # noqa: E402
+from deferreds.ending import run_command  # noqa: E402
+
 TOP = Path(__file__).resolve().parent.parent
 
 
@@ -97,7 +102,7 @@ def tables(figures: Figures, before: Figures | None) -> Iterator[Table]:
 
 def parsed(words: Sequence[str] | None) -> argparse.Namespace:
     """The options."""
-    parser = argparse.ArgumentParser(description=(__doc__ or "").splitlines()[0])
+    parser = Parser(description=(__doc__ or "").splitlines()[0])
     parser.add_argument("--program", type=Path, help="the built program; otherwise what ./deferreds --program tells")
     parser.add_argument("--only", default="", metavar="NAME", help="the workloads whose names have this in them")
     parser.add_argument("--instructions", action="store_true", help="count instructions, by valgrind, in place of time")
@@ -141,4 +146,4 @@ def main(words: Sequence[str] | None = None) -> int:
 
 
 if __name__ == "__main__":
-    sys.exit(main())
+    run_command(main, "bench.py")

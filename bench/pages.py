@@ -17,7 +17,7 @@ from collections.abc import Iterator, Mapping, Sequence
 from dataclasses import dataclass, replace
 from pathlib import Path
 
-from bench import TOP, built_program
+from bench import TOP, Parser, built_program, run_command
 from measuring import NotMeasured, peak_memory
 from tables import Table
 from workloads import WORKLOADS, Workload
@@ -99,7 +99,7 @@ def table(options: argparse.Namespace) -> Table:
 
 def main(words: Sequence[str] | None = None) -> int:
     """The command."""
-    parser = argparse.ArgumentParser(description=(__doc__ or "").splitlines()[0])
+    parser = Parser(description=(__doc__ or "").splitlines()[0])
     parser.add_argument("--lines", type=int, action="append", metavar="N", help="about how many lines the runs have; may be given again")
     parser.add_argument("--runs", type=int, default=11, metavar="N", help="of how many runs the least time counts (11)")
     parser.add_argument("--memory", action="store_true", help="measure the peak of resident memory, too")
@@ -116,4 +116,4 @@ def main(words: Sequence[str] | None = None) -> int:
 
 
 if __name__ == "__main__":
-    sys.exit(main())
+    run_command(main, "pages.py")

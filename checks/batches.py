@@ -7,11 +7,11 @@ these scripts is run in every order that Python finds, all of which have to be t
 from __future__ import annotations
 
 import json
-import sys
 from functools import partial
 from pathlib import Path
 from typing import Callable, Dict, Iterator, List, NamedTuple, Optional
 
+from deferreds.ending import run_command
 from deferreds.orders import Order, orders, posting_of
 from programs import TOP, Ran, program_here, run, run_all
 from worded import Row, difference, read_rows
@@ -92,4 +92,4 @@ def main() -> int:
 
 
 if __name__ == "__main__":
-    sys.exit(main())
+    run_command(main, "batches.py")

@@ -1,7 +1,7 @@
 """`check [STAGE ..]`: runs the checks that need no proof, on the program that is built or released for these sources.
 
 Without arguments all stages run, two side by side. A stage that needs a tool which isn't here is left out, and the last lines name it.
-Status 0: all that ran passed; 1: a stage failed; 64: the arguments are wrong; 70: there is no program for these sources.
+Status 0: all that ran passed; 1: a stage failed; 4: standard output can't be written; 64: the arguments are wrong; 70: there is no program for these sources.
 """
 
 from __future__ import annotations
@@ -15,7 +15,8 @@ import time
 from concurrent.futures import ThreadPoolExecutor
 from typing import Callable, Dict, List, NamedTuple, Optional
 
-from deferreds.ending import ended
+from deferreds.arguments import USAGE, Parser
+from deferreds.ending import run_command
 
 from programs import TOP, program_here
 
@@ -142,20 +143,17 @@ def run_stages(stages: List[Stage]) -> List[Result]:
 
 
 def main() -> int:
-    parser = argparse.ArgumentParser(
+    parser = Parser(
         prog="check", description=__doc__, formatter_class=argparse.RawDescriptionHelpFormatter,
         epilog="stages:\n" + "\n".join(f"  {stage.name:10} {stage.shows}" for stage in STAGES),
     )
     parser.add_argument("stages", nargs="*", metavar="STAGE", help="a stage to run alone")
-    try:
-        asked = parser.parse_args()
-    except SystemExit as ended:
-        return 64 if ended.code else 0
+    asked = parser.parse_args()
     named = {stage.name: stage for stage in STAGES}
     for name in asked.stages:
         if name not in named:
             print(f"check: {name} is no stage: {', '.join(named)}", file=sys.stderr)
-            return 64
+            return USAGE
     program_here()
     began = time.monotonic()
     results = run_stages([named[name] for name in asked.stages] or STAGES)
@@ -168,4 +166,4 @@ def main() -> int:
 
 
 if __name__ == "__main__":
-    sys.exit(ended(main, "check"))
+    run_command(main, "check")

@@ -9,15 +9,15 @@ does: in every order where there are few, and else of a sample. Without PROGRAM 
 
 from __future__ import annotations
 
-import argparse
 import json
-import sys
 from functools import partial
 from itertools import count, islice
 from pathlib import Path
 from typing import Callable, Dict, Iterable, Iterator, List, NamedTuple, Optional
 
+from deferreds.arguments import Parser
 from deferreds.bounds import ORDERS
+from deferreds.ending import run_command
 from deferreds.orders import Order, number_of_orders, orders, posting_of
 from deferreds.sampling import MOST_DRAWN_FROM, sampled
 from deferreds.survey import (
@@ -192,7 +192,7 @@ def random_scripts(seed: int) -> Iterator[Scripted]:
 
 
 def main() -> int:
-    parser = argparse.ArgumentParser(prog="orders.py", description=__doc__)
+    parser = Parser(prog="orders.py", description=__doc__)
     parser.add_argument("--random", type=int, default=0, metavar="K")
     parser.add_argument("--seed", type=int, default=1, metavar="S")
     parser.add_argument("--ours", type=Path, metavar="PROGRAM")
@@ -209,4 +209,4 @@ def main() -> int:
 
 
 if __name__ == "__main__":
-    sys.exit(main())
+    run_command(main, "orders.py")

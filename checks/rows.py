@@ -2,10 +2,10 @@
 
 from __future__ import annotations
 
-import sys
 from pathlib import Path
 from typing import Iterator, NamedTuple, Optional
 
+from deferreds.ending import run_command
 from deferreds.twisted.rows import ROWS, Expected, filled, read_rows, row_files, unfolded
 from programs import Ran, first_difference, program_here, run, run_all
 
@@ -61,4 +61,4 @@ def main() -> int:
 
 
 if __name__ == "__main__":
-    sys.exit(main())
+    run_command(main, "rows.py")

@@ -29,6 +29,11 @@ from threading import Lock
 from faults import End, Fault, Kind, is_right
 from scripts import Script, all_scripts, sample_scripts, told_sample_scripts, told_scripts
 
+sys.path.insert(0, str(Path(__file__).resolve().parent.parent / "python"))
+
+from deferreds.arguments import Parser  # noqa: E402
+from deferreds.ending import run_command  # noqa: E402
+
 HERE = Path(__file__).resolve().parent
 LAUNCHER = HERE.parent / "deferreds"
 WORKERS = (0, 2)
@@ -201,7 +206,7 @@ def program_here() -> Path:
 
 
 def main() -> int:
-    parser = argparse.ArgumentParser(description=__doc__, formatter_class=argparse.RawDescriptionHelpFormatter)
+    parser = Parser(description=__doc__, formatter_class=argparse.RawDescriptionHelpFormatter)
     parser.add_argument("--cmd", type=Path, metavar="PROGRAM", help="the program that runs, in place of the one that is built or released")
     parser.add_argument("--cc", default=os.environ.get("CC", "cc"), metavar="COMPILER", help="the C compiler for the shim")
     parser.add_argument("--sample", action="store_true", help="take a few scripts alone")
@@ -220,4 +225,4 @@ def main() -> int:
 
 
 if __name__ == "__main__":
-    sys.exit(main())
+    run_command(main, "sweep.py")

@@ -19,6 +19,7 @@ from typing import List
 import content
 import project as projects
 from archives import File, compressed
+from command import Parser, run_command
 from project import TOP, Project
 
 _DOCUMENTS = "usr/share/doc/deferreds"
@@ -167,7 +168,7 @@ def build(folder: Path) -> Path:
 
 def main(words: List[str]) -> int:
     """The command."""
-    parser = argparse.ArgumentParser(
+    parser = Parser(
         prog="debian.py", description=__doc__, formatter_class=argparse.RawDescriptionHelpFormatter
     )
     parser.add_argument("folder", type=Path, metavar="OUT_FOLDER")
@@ -185,4 +186,4 @@ def main(words: List[str]) -> int:
 
 
 if __name__ == "__main__":
-    sys.exit(main(sys.argv[1:]))
+    run_command(lambda: main(sys.argv[1:]), "debian.py")

@@ -7,7 +7,8 @@ VERSION, as 0.1.0, has to have its section in CHANGELOG.md. The gate proves the 
 of the release, by the kit that it names, it has to be the released one, byte for byte: another kit may compile the same sources to
 other bytes. `--stamp` has the program say, by `--version`, of which sources it is.
 
-Status 0: made, or nothing is wrong; 1: something is wrong; 64: the arguments are wrong; 70: a tool is missing or failed.
+Status 0: made, or nothing is wrong; 1: something is wrong; 4: standard output can't be written; 64: the arguments are wrong;
+70: a tool is missing or failed.
 """
 
 from __future__ import annotations
@@ -15,13 +16,14 @@ from __future__ import annotations
 import argparse
 import filecmp
 import hashlib
-import os
 import re
 import shutil
 import subprocess
 import sys
 from pathlib import Path
 from typing import List, Optional
+
+from command import Parser, run_command
 
 TOP = Path(__file__).resolve().parent.parent
 RELEASED = TOP / "release" / "x86_64-linux"
@@ -192,16 +194,13 @@ def take_program() -> None:
 
 
 def main() -> int:
-    parser = argparse.ArgumentParser(prog="make_release", description=__doc__, formatter_class=argparse.RawDescriptionHelpFormatter)
+    parser = Parser(prog="make_release", description=__doc__, formatter_class=argparse.RawDescriptionHelpFormatter)
     what = parser.add_mutually_exclusive_group(required=True)
     what.add_argument("version", nargs="?", metavar="VERSION", help="make a release of this version")
     what.add_argument("--check", action="store_true", help="check the release in this repository")
     what.add_argument("--stamp", action="store_true", help="have the program say of which sources it is")
     parser.add_argument("--without-gate", action="store_true", help="prove what the program stands on alone, and not tests and laws")
-    try:
-        asked = parser.parse_args()
-    except SystemExit as ended:
-        return 64 if ended.code else 0
+    asked = parser.parse_args()
     try:
         if asked.check:
             check()
@@ -209,14 +208,11 @@ def main() -> int:
             stamp()
         else:
             make(asked.version, not asked.without_gate)
-        sys.stdout.flush()
     except Failed as failed:
         print(f"make_release: {failed}", file=sys.stderr)
         return failed.status
     except BrokenPipeError:
-        # what is still to be written would fail again when Python ends
-        os.dup2(os.open(os.devnull, os.O_WRONLY), sys.stdout.fileno())
-        return 1
+        raise
     except OSError as error:
         print(f"make_release: {error.filename} can't be read or written: {error.strerror}", file=sys.stderr)
         return 1
@@ -227,4 +223,4 @@ def main() -> int:
 
 
 if __name__ == "__main__":
-    sys.exit(main())
+    run_command(main, "make_release")

@@ -7,6 +7,7 @@ import re
 import sys
 from typing import List
 
+from command import run_command
 from project import PYPROJECT
 
 _FORM = re.compile(r"(0|[1-9][0-9]*)(\.(0|[1-9][0-9]*)){2}")
@@ -28,4 +29,4 @@ def main(words: List[str]) -> int:
 
 
 if __name__ == "__main__":
-    sys.exit(main(sys.argv[1:]))
+    run_command(lambda: main(sys.argv[1:]), "set_version.py")

@@ -3,17 +3,17 @@
 
 from __future__ import annotations
 
-import argparse
 import sys
 from pathlib import Path
 from typing import List
 
 from backend import build_wheel
+from command import Parser, run_command
 
 
 def main(words: List[str]) -> int:
     """The command."""
-    parser = argparse.ArgumentParser(prog="wheel.py", description=__doc__)
+    parser = Parser(prog="wheel.py", description=__doc__)
     parser.add_argument("folder", type=Path, metavar="OUT_FOLDER")
     folder: Path = parser.parse_args(words).folder
     try:
@@ -26,4 +26,4 @@ def main(words: List[str]) -> int:
 
 
 if __name__ == "__main__":
-    sys.exit(main(sys.argv[1:]))
+    run_command(lambda: main(sys.argv[1:]), "wheel.py")

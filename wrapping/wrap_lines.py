@@ -9,12 +9,16 @@ a wrong body of `must-fail/` names. Run `rt fmt` in each crate's folder afterwar
 from __future__ import annotations
 
 import argparse
-import signal
 import sys
 from pathlib import Path
 from typing import Dict, Iterator, List, Optional
 
 from sources import Changed, too_long, wrapped
+
+sys.path.insert(0, str(Path(__file__).resolve().parent.parent / "python"))
+
+from deferreds.arguments import Parser  # noqa: E402
+from deferreds.ending import run_command  # noqa: E402
 
 CRATES = Path(__file__).resolve().parent.parent / "crates"
 
@@ -59,7 +63,7 @@ def left(crate: Path) -> List[str]:
 
 
 def main(words: Optional[List[str]] = None, crates_folder: Path = CRATES) -> int:
-    parser = argparse.ArgumentParser(prog="wrap_lines.py", description=__doc__, formatter_class=argparse.RawDescriptionHelpFormatter)
+    parser = Parser(prog="wrap_lines.py", description=__doc__, formatter_class=argparse.RawDescriptionHelpFormatter)
     parser.add_argument("--check", action="store_true", help="only list the lines that are too long")
     parser.add_argument("crates", nargs="*", metavar="CRATE", help="a crate by its name; all, if there are none")
     asked = parser.parse_args(words)
@@ -82,5 +86,4 @@ def main(words: Optional[List[str]] = None, crates_folder: Path = CRATES) -> int
 
 
 if __name__ == "__main__":
-    signal.signal(signal.SIGPIPE, signal.SIG_DFL)
-    sys.exit(main())
+    run_command(main, "wrap_lines.py")

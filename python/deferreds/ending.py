@@ -2,6 +2,8 @@
 
 from __future__ import annotations
 
+import errno
+import io
 import os
 import sys
 
@@ -9,7 +11,9 @@ import sys
 TYPE_CHECKING = False
 if TYPE_CHECKING:
     from types import TracebackType
-    from typing import IO, Callable, Optional, Type
+    from typing import IO, Any, Callable, NoReturn, Optional, Type
+
+    Buffer = Any
 
 #: the status of a command whose output couldn't be written, which is that of `deferreds`
 WRITE_FAILED = 4
@@ -30,6 +34,23 @@ class writing:
             raise OutputFailed(error.strerror) from None
 
 
+class _Output(io.FileIO):
+    """The file of standard output: what can't be written to it raises OutputFailed, whoever prints."""
+
+    def write(self, text: Buffer, /) -> int:
+        with writing():
+            return super().write(text)
+
+
+def print_text(text: str) -> None:
+    """Prints a text to standard output, and flushes it. Raises OutputFailed if it can't be written."""
+    with writing():
+        if sys.stdout is None:
+            raise OSError(errno.EBADF, os.strerror(errno.EBADF))
+        sys.stdout.write(text)
+        sys.stdout.flush()
+
+
 def say(text: str) -> None:
     """Prints a line to standard error. Where that can't be written nobody is there to read it, and the status stays what it is."""
     try:
@@ -39,13 +60,33 @@ def say(text: str) -> None:
 
 
 def open_streams() -> None:
-    """Has a standard stream that is closed fail when it is used. Python has None in its place, and a file that is opened would get its number."""
+    """Has a standard stream that is closed, or can't be written, fail as `ended` expects when it is used.
+
+    Python has None in the place of a closed one, and a file that is opened would get its number.
+    """
     if sys.stdin is None:
         sys.stdin = os.fdopen(os.open(os.devnull, os.O_WRONLY), "r")
     if sys.stdout is None:
-        sys.stdout = os.fdopen(os.open(os.devnull, os.O_RDONLY), "w")
+        sys.stdout = open(os.open(os.devnull, os.O_RDONLY), "w", closefd=False)
     if sys.stderr is None:
         sys.stderr = os.fdopen(os.open(os.devnull, os.O_WRONLY), "w")
+    if isinstance(sys.stdout, io.TextIOWrapper):
+        sys.stdout = _checked(sys.stdout)
+
+
+def _checked(stream: io.TextIOWrapper) -> io.TextIOWrapper:
+    """A stream as this one, to the same file, which raises OutputFailed where it can't be written."""
+    raw = _Output(stream.fileno(), "wb", closefd=False)
+    file: Any = raw if stream.write_through else io.BufferedWriter(raw)
+    return io.TextIOWrapper(
+        file, stream.encoding, stream.errors, line_buffering=stream.line_buffering, write_through=stream.write_through
+    )
+
+
+def run_command(main: Callable[[], int], name: str) -> NoReturn:
+    """Runs a command, which runs no program of the user's in its process, to the end of the process."""
+    open_streams()
+    sys.exit(ended(main, name))
 
 
 def ended(main: Callable[[], int], name: str) -> int:
@@ -58,6 +99,8 @@ def ended(main: Callable[[], int], name: str) -> int:
             status = main()
         except SystemExit as exit_:
             status = exit_.code if isinstance(exit_.code, int) else int(exit_.code is not None)
+            if isinstance(exit_.code, str):
+                say(exit_.code)
         if sys.stdout is not None:
             with writing():
                 sys.stdout.flush()
@@ -94,5 +137,6 @@ def discard_output() -> None:
     _discard(sys.stdout)
 
 
-def _discard(stream: IO[str]) -> None:
-    os.dup2(os.open(os.devnull, os.O_WRONLY), stream.fileno())
+def _discard(stream: Optional[IO[str]]) -> None:
+    if stream is not None:
+        os.dup2(os.open(os.devnull, os.O_WRONLY), stream.fileno())

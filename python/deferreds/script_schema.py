@@ -12,6 +12,7 @@ import json
 import sys
 from typing import Any, Callable, Dict, List
 
+from .ending import run_command
 from .language import LANGUAGE, Form, Key, Language, Word
 
 Schema = Dict[str, Any]
@@ -197,4 +198,4 @@ def main() -> int:
 
 
 if __name__ == "__main__":
-    sys.exit(main())
+    run_command(main, "make_schema")

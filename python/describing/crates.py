@@ -11,8 +11,9 @@ import sys
 from pathlib import Path
 from typing import Iterable, List, Optional
 
+from deferreds.arguments import Parser
 from deferreds.checkout import TOP
-from deferreds.ending import ended
+from deferreds.ending import run_command
 
 from .sources import Crate, Missing, crates
 
@@ -54,12 +55,9 @@ def write(page: Path, rows: List[str]) -> bool:
 
 
 def main() -> int:
-    parser = argparse.ArgumentParser(prog="make_map", description=__doc__, formatter_class=argparse.RawDescriptionHelpFormatter)
+    parser = Parser(prog="make_map", description=__doc__, formatter_class=argparse.RawDescriptionHelpFormatter)
     parser.add_argument("--write", action="store_true", help="write the table into crates/README.md")
-    try:
-        asked = parser.parse_args()
-    except SystemExit as wrong:
-        return 64 if wrong.code else 0
+    asked = parser.parse_args()
     try:
         rows = table(crates())
     except Missing as why:
@@ -74,4 +72,4 @@ def main() -> int:
 
 
 if __name__ == "__main__":
-    sys.exit(ended(main, "make_map"))
+    run_command(main, "make_map")

@@ -10,7 +10,8 @@ import argparse
 import sys
 from typing import Iterator, List
 
-from deferreds.ending import ended
+from deferreds.arguments import Parser
+from deferreds.ending import run_command
 
 from .sources import Crate, Missing, crates, modules
 
@@ -32,12 +33,9 @@ def listing(asked: List[str]) -> List[str]:
 
 
 def main() -> int:
-    parser = argparse.ArgumentParser(prog="definitions", description=__doc__, formatter_class=argparse.RawDescriptionHelpFormatter)
+    parser = Parser(prog="definitions", description=__doc__, formatter_class=argparse.RawDescriptionHelpFormatter)
     parser.add_argument("crates", nargs="*", metavar="CRATE", help="a crate to list alone, as dv_store")
-    try:
-        asked = parser.parse_args()
-    except SystemExit as wrong:
-        return 64 if wrong.code else 0
+    asked = parser.parse_args()
     try:
         unknown = sorted(set(asked.crates) - {crate.name for crate in crates()})
         if unknown:
@@ -51,4 +49,4 @@ def main() -> int:
 
 
 if __name__ == "__main__":
-    sys.exit(ended(main, "definitions"))
+    run_command(main, "definitions")

@@ -12,7 +12,7 @@ from pathlib import Path
 from typing import Dict, List, Sequence
 
 import deferreds.view
-from deferreds.ending import ended, say
+from deferreds.ending import run_command, say
 from deferreds.language import LANGUAGE
 from deferreds.view.document import shell
 from deferreds.view.long_pages import MARK, SHELL
@@ -70,4 +70,4 @@ def main(words: List[str]) -> int:
 
 
 if __name__ == "__main__":
-    sys.exit(ended(lambda: main(sys.argv[1:]), "make_drawing"))
+    run_command(lambda: main(sys.argv[1:]), "make_drawing")

@@ -3,6 +3,8 @@
 from __future__ import annotations
 
 import contextlib
+import hashlib
+import json
 import os
 import re
 import signal
@@ -12,6 +14,7 @@ from typing import List, Optional
 
 from twisted.internet import defer
 
+from deferreds.testing.folder import Folder
 from deferreds.twisted.instruments import install
 from deferreds.twisted.programs import Answer, Batches, Broken, Program
 from deferreds.twisted.recording.files import Place
@@ -24,6 +27,11 @@ from deferreds.twisted.rows import ANY_LINES, read_rows, row_files
 
 from .forked import Forked
 from .recording_of import RecordingCase
+
+
+def listed(files: object) -> str:
+    """A list of files as a recording writes it."""
+    return json.dumps({"written by": "deferreds record", "files": files})
 
 
 class Words(RecordingCase):
@@ -110,9 +118,79 @@ class Files(RecordingCase):
         self.assertEqual((ended.status, self.text("makes.json")), (0, "mine"), ended.said)
         self.assert_goes_together(f"makes.{process.pid}")
 
-    def test_a_folder_that_isnt_there_is_told_before_the_program_runs(self) -> None:
-        ended = self.record("-o", "nowhere/run", "configured.py")
+    def test_folders_that_arent_there_are_made(self) -> None:
+        self.assertEqual(self.record("-o", "new/folder/run", "configured.py").status, 0)
+        self.assert_goes_together("new/folder/run")
+        self.assertEqual(self.record("-o", "other/", "configured.py").status, 0)
+        self.assert_goes_together("other/configured")
+
+    def test_a_folder_that_cant_be_made_is_told_before_the_program_runs(self) -> None:
+        (self.folder / "file").touch()
+        for name in ("file/run", "file/folder/run"):
+            ended = self.record("-o", name, "configured.py")
+            self.assertEqual((ended.status, ended.printed, ended.said.count("\n")), (73, "", 1), ended.said)
+
+    def test_its_owner_alone_can_read_a_recording(self) -> None:
+        self.assertEqual(self.record("-o", "run", "--view", "--last", "5", "goes_on.py", "9").status, 0)
+        found = {name: (self.folder / name).stat().st_mode & 0o777 for name in self.files()}
+        self.assertLess({"run.json", "run.journal", "run.html", "run.places.json", "run.recording", "run.before.json"}, set(found))
+        self.assertEqual(set(found.values()), {0o600}, found)
+
+    def test_a_list_that_no_recording_has_written_is_told_before_the_program_runs(self) -> None:
+        lists = {
+            "folder": lambda path: path.mkdir(),
+            "pipe": lambda path: os.mkfifo(path),
+            "link": lambda path: path.symlink_to("/dev/zero"),
+            "empty": lambda path: path.touch(),
+            "deep": lambda path: path.write_text("[" * 100_000, encoding="utf-8"),
+            "long": lambda path: os.truncate(os.open(path, os.O_CREAT | os.O_WRONLY), 1 << 40),
+            "above": lambda path: path.write_text(listed({"../kept.txt": ""}), encoding="utf-8"),
+            "absolute": lambda path: path.write_text(listed({str(self.folder / "kept.txt"): ""}), encoding="utf-8"),
+            "other": lambda path: path.write_text(listed({"kept.txt": ""}), encoding="utf-8"),
+            "strange": lambda path: path.write_text(listed([[[], 1]]), encoding="utf-8"),
+        }
+        for name, make in lists.items():
+            with self.subTest(name=name):
+                make(self.folder / f"{name}.recording")
+                ended = self.record("-o", name, "configured.py")
+                self.assertEqual((ended.status, ended.printed, ended.said.count("\n")), (73, "", 1), ended.said)
+                self.assertRegex(ended.said, f"^record: {name}.recording is (there, and isn't a recording|a folder)")
+
+    def test_nothing_that_a_list_of_somebody_else_names_is_removed(self) -> None:
+        (self.folder / "kept.txt").write_text("kept", encoding="utf-8")
+        (self.folder / "made").mkdir()
+        digest = hashlib.sha256(b"kept").hexdigest()
+        for number, name in enumerate(("../kept.txt", str(self.folder / "kept.txt"))):
+            (self.folder / "made" / f"run_{number}.recording").write_text(listed({name: digest}), encoding="utf-8")
+            self.assertEqual(self.record("-f", "-o", f"made/run_{number}", "configured.py").status, 0)
+            self.assertEqual(self.text("kept.txt"), "kept")
+
+    def test_a_pipe_in_the_place_of_a_file_is_told_before_the_program_runs(self) -> None:
+        self.assertEqual(self.record("-o", "run", "configured.py").status, 0)
+        (self.folder / "run.json").unlink()
+        os.mkfifo(self.folder / "run.json")
+        ended = self.record("-o", "run", "configured.py")
         self.assertEqual((ended.status, ended.printed, ended.said.count("\n")), (73, "", 1), ended.said)
+
+    def test_a_link_with_the_name_of_a_file_that_isnt_whole_yet_is_not_followed(self) -> None:
+        kept = self.folder / "kept.txt"
+        kept.write_text("kept", encoding="utf-8")
+        (self.folder / f".run.json.{os.getpid()}.tmp").symlink_to(kept)
+        (self.folder / f".run.json.{os.getpid()}").symlink_to(kept)
+        self.assertEqual(Place(str(self.folder / "run")).write({".json": "new"}, {}).failures, [])
+        folder = Folder(self.folder)
+        folder.write("run", {".json": "newer"})
+        self.assertEqual((kept.read_text(encoding="utf-8"), self.text("run.json")), ("kept", "newer"))
+
+    def test_no_link_is_followed(self) -> None:
+        kept = self.folder / "kept.txt"
+        kept.write_text("kept", encoding="utf-8")
+        for ending in (".json", ".journal", ".recording"):
+            (self.folder / f"run{ending}").symlink_to(kept)
+        self.assertEqual(self.record("-f", "-o", "run", "configured.py").status, 0)
+        self.assertEqual(kept.read_text(encoding="utf-8"), "kept")
+        self.assertFalse((self.folder / "run.json").is_symlink())
+        self.assert_goes_together("run")
 
     def test_what_cant_be_written_is_told_and_the_rest_is_whole(self) -> None:
         ended = self.record("-o", "run", "--view", "limits_files.py", "4096")
@@ -132,8 +210,10 @@ class Files(RecordingCase):
         process = self.start("-o", "room/run", "leaves.py")
         ended = self.end(process)
         self.assertEqual(ended.status, 73, ended.said)
-        self.assertIn(f"temporary/run.{process.pid}.json", ended.said)
-        self.assert_goes_together(f"temporary/run.{process.pid}")
+        self.assertRegex(ended.said, f"temporary/deferreds[.][^/]+/run.{process.pid}.json")
+        (room,) = (self.folder / "temporary").iterdir()
+        self.assertEqual(room.stat().st_mode & 0o777, 0o700)
+        self.assert_goes_together(f"temporary/{room.name}/run.{process.pid}")
 
 
 class Told(RecordingCase):

@@ -15,7 +15,7 @@ from typing import Dict, List, NamedTuple
 from unittest import mock
 
 from deferreds.testing import recorded
-from deferreds.testing.folder import HEADER, LIST, Folder, NotUsable, name_of
+from deferreds.testing.folder import HEADER, LIST, SUFFIXES, Folder, NotUsable, name_of
 from deferreds.testing.recorded import RecordedTests, running
 from deferreds.twisted.running import be_quiet, run
 from deferreds.view.names import PLACES
@@ -487,6 +487,23 @@ class FolderTest(TestingTest):
         with self.assertRaisesRegex(NotUsable, "isn't a list of recordings"):
             Folder(self.out).begin()
         self.assertEqual((self.out / LIST).read_text(encoding="utf-8"), "mine\n")
+
+    def test_a_list_that_is_no_plain_file_is_refused(self) -> None:
+        self.out.mkdir()
+        (self.folder / "own.txt").write_text(f"{HEADER}\n", encoding="utf-8")
+        for make in (os.mkfifo, os.mkdir, lambda path: os.symlink(self.folder / "own.txt", path)):
+            make(self.out / LIST)
+            with self.assertRaisesRegex(NotUsable, "isn't a list of recordings"):
+                Folder(self.out).begin()
+            (os.rmdir if (self.out / LIST).is_dir() else os.unlink)(self.out / LIST)
+
+    def test_its_owner_alone_can_read_what_is_written(self) -> None:
+        folder = Folder(self.out)
+        folder.begin()
+        folder.tell("t", "left")
+        folder.write("t", {suffix: "x" for suffix in SUFFIXES})
+        modes = {path.name: path.stat().st_mode & 0o777 for path in self.out.iterdir()}
+        self.assertEqual(modes, {name: 0o600 for name in (LIST, *(f"t{suffix}" for suffix in SUFFIXES))})
 
     def test_names_that_lead_out_of_the_folder_remove_nothing(self) -> None:
         self.out.mkdir()

@@ -9,13 +9,14 @@ are compared. The last line is `N passed, M failed`, and the status is 0 exactly
 
 from __future__ import annotations
 
-import argparse
 import os
 import sys
 from itertools import islice
 from pathlib import Path
 from typing import Iterator, List
 
+from ..arguments import Parser
+from ..ending import run_command
 from ..program import NOT_RUN, NotRun, built
 from ..twisted.randoms import Scripts
 from ..twisted.rows import Expected, filled, read_rows, row_files
@@ -102,7 +103,7 @@ def all_rows() -> Iterator[Expected]:
 
 def main(words: List[str]) -> int:
     """The command."""
-    parser = argparse.ArgumentParser(prog="check_json", description=__doc__)
+    parser = Parser(prog="check_json", description=__doc__)
     parser.add_argument("--random", type=int, default=2000, metavar="N")
     parser.add_argument("--seed", type=int, default=1, metavar="S")
     parser.add_argument("--each", type=int, default=1, metavar="K", help="take each K-th row alone")
@@ -139,4 +140,4 @@ def _check(program: Path, seed: int, randoms: int, each: int) -> int:
 
 
 if __name__ == "__main__":
-    sys.exit(main(sys.argv[1:]))
+    run_command(lambda: main(sys.argv[1:]), "check_json")

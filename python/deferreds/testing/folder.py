@@ -2,12 +2,13 @@
 
 from __future__ import annotations
 
-import contextlib
 import hashlib
 import os
 import re
 from pathlib import Path
 from typing import Dict, List, Mapping, NamedTuple
+
+from ..files import read_plain, write_whole
 
 #: the list of what a run has left, which the next run reads to remove that
 LIST = "deferreds-recordings.txt"
@@ -19,6 +20,10 @@ HEADER = "# What deferreds has recorded of tests. The next run removes the files
 SUFFIXES = (".json", ".places.json", ".journal", ".html")
 
 _MOST_NAME = 120
+
+#: the list of a run of a hundred thousand tests has some ten million bytes
+_MOST_LIST = 1 << 26
+
 _NAME = re.compile(r"[A-Za-z0-9_][A-Za-z0-9_.-]*")
 
 
@@ -51,19 +56,25 @@ class Folder:
             for one in self._earlier():
                 for suffix in SUFFIXES:
                     (self.path / f"{one.name}{suffix}").unlink(missing_ok=True)
-            self._list.write_text(f"{HEADER}\n", encoding="utf-8")
+            write_whole(self._list, f"{HEADER}\n".encode())
         except OSError as error:
             raise NotUsable(f"{error.filename or self.path} can't be written: {error.strerror}") from None
 
     def _earlier(self) -> List[Listed]:
         if not os.path.lexists(self._list):
             return []
-        if not self._read().startswith(HEADER):
+        if not self._is_list():
             raise NotUsable(f"{self._list} is there, and isn't a list of recordings")
         return [one for one in self.listed() if _NAME.fullmatch(one.name)]
 
+    def _is_list(self) -> bool:
+        try:
+            return self._read().startswith(HEADER)
+        except OSError:
+            return False
+
     def _read(self) -> str:
-        return self._list.read_text(encoding="utf-8", errors="replace")
+        return read_plain(self._list, _MOST_LIST).decode("utf-8", "replace")
 
     def listed(self) -> List[Listed]:
         """What this run of tests has told, in order. Raises OSError where the list can't be read."""
@@ -73,7 +84,8 @@ class Folder:
 
     def tell(self, name: str, said: str) -> None:
         """Adds a line to the list. Raises OSError."""
-        with self._list.open("a", encoding="utf-8", errors="backslashreplace") as file:
+        descriptor = os.open(self._list, os.O_WRONLY | os.O_APPEND | os.O_NOFOLLOW | os.O_CLOEXEC)
+        with open(descriptor, "a", encoding="utf-8", errors="backslashreplace") as file:
             file.write(f"{name}\t{_on_one_line(said)}\n")
 
     def name(self, test: str) -> str:
@@ -98,7 +110,7 @@ class Folder:
         for suffix in SUFFIXES:
             path = self.path / f"{name}{suffix}"
             if suffix in texts:
-                _write_whole(path, texts[suffix])
+                write_whole(path, texts[suffix].encode("utf-8", "backslashreplace"))
             else:
                 path.unlink(missing_ok=True)
 
@@ -115,15 +127,3 @@ def name_of(test: str) -> str:
 
 def _on_one_line(text: str) -> str:
     return " ".join(text.split())
-
-
-def _write_whole(path: Path, text: str) -> None:
-    """Writes a file in place of the one that is there, which stays where that fails."""
-    new = path.with_name(f".{path.name}.{os.getpid()}")
-    try:
-        new.write_text(text, encoding="utf-8")
-        os.replace(new, path)
-    except BaseException:
-        with contextlib.suppress(OSError):
-            new.unlink()
-        raise

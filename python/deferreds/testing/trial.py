@@ -14,6 +14,7 @@ from twisted.python import usage
 from twisted.scripts import trial
 from twisted.trial.unittest import TestCase
 
+from ..ending import print_text, writing
 from ..twisted.recording.case import without_own_frames
 from . import cases
 from .folder import NotUsable
@@ -33,6 +34,16 @@ class Options(_Options):
         [_OPTION, None, None, "leave a recording in this folder of each test that failed or left something behind"],
         [_PLAIN, None, "", "record these kinds of objects as the Python that they are made of"],
     ]
+
+    def opt_help(self) -> None:
+        """Display this help and exit."""
+        print_text(str(self))
+        raise SystemExit(0)
+
+    def parseOptions(self, options: Any = None) -> None:
+        """Raises OutputFailed if what is asked for can't be printed."""
+        with writing():
+            super().parseOptions(options)
 
     def postOptions(self) -> None:
         """Has trial's reporter record each test, where that is asked for."""

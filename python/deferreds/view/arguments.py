@@ -1,7 +1,8 @@
 """`./view [-o FILE] [--text] [SCRIPT..]`: runs a script, and shows what happened in which order, and what is left and
 why.
 
-Writes a page that any browser opens: SCRIPT's name with `.html`, in the folder where the command is run, or FILE.
+Writes a page that any browser opens: SCRIPT's name with `.html`, in the folder where the command is run, or FILE. Folders of FILE that
+aren't there are made.
 With several scripts FILE is a folder, and a second one of a name gets `NAME_2.html`. With `-o -` the page goes to
 standard output. `--text` prints the view instead, and `--trace` writes a trace of Chrome's. Without SCRIPT the script is standard
 input. `--journal FILE` shows a journal with its outcomes, as `./deferreds`, `./on_twisted` or `./record` prints it, and runs
@@ -18,35 +19,19 @@ it is given as; 73: the page can't be written. With several scripts it is the fi
 from __future__ import annotations
 
 import argparse
-from typing import IO, List, NoReturn, Optional
+from typing import List
 
+from ..arguments import USAGE, Parser
 from ..bounds import MOST_ORDERS, MOST_SEED, ORDERS
 from ..checkout import as_called, command_name
-from ..ending import say, writing
+from ..ending import say
 from .batches import NotBatches, parse_batches
-from .inputs import USAGE
 from .names import STANDARD, TRACE
-
-
-class _Parser(argparse.ArgumentParser):
-    """Says by its status when its help can't be written, and that arguments are wrong where standard error can't be written.
-
-    Some versions of argparse go on as if all were written, and others fail.
-    """
-
-    def error(self, message: str) -> NoReturn:
-        """Says what is wrong with the words, and ends."""
-        say(f"{self.format_usage()}{self.prog}: error: {message}")
-        raise SystemExit(USAGE)
-
-    def print_help(self, file: Optional[IO[str]] = None) -> None:
-        """Prints the help."""
-        print(self.format_help(), end="", file=file)
 
 
 def parsed(words: List[str]) -> argparse.Namespace:
     """The options and files that these words are. Ends with status 64 if they are wrong, and with 0 if help is asked for."""
-    parser = _Parser(
+    parser = Parser(
         prog=command_name("view"), description=as_called(__doc__), formatter_class=argparse.RawDescriptionHelpFormatter
     )
     add = parser.add_argument
@@ -120,11 +105,7 @@ def parsed(words: List[str]) -> argparse.Namespace:
     add("--from", dest="first", type=int, metavar="N", help="the first line that the chart shows (1)")
     add("--to", dest="last", type=int, metavar="N", help="the last line (5000 lines at most)")
     add("scripts", nargs="*", metavar="SCRIPT", help="a script")
-    try:
-        with writing():
-            options = parser.parse_args(words)
-    except SystemExit as exit_:
-        raise SystemExit(USAGE if exit_.code else 0) from None
+    options = parser.parse_args(words)
     wrong = _mistake(options)
     if wrong:
         say(f"{command_name('view')}: {wrong}")

@@ -7,8 +7,10 @@ import re
 from pathlib import Path
 from typing import Any
 
+from ..files import read_plain
 from .names import RECORDING
 
+_MOST_LIST = 1 << 20
 _TICK = re.compile("(?:1/)?[1-9][0-9]{0,9} (?:s|ms|µs|ns)")
 
 
@@ -27,6 +29,6 @@ def tick_beside(name: str) -> str:
     """The tick of the recording that a script or a journal is of; an empty text where it is of none."""
     path = Path(name)
     try:
-        return read_tick(path.with_suffix(RECORDING).read_text(encoding="utf-8"), path.name)
+        return read_tick(read_plain(path.with_suffix(RECORDING), _MOST_LIST).decode("utf-8"), path.name)
     except (OSError, ValueError):
         return ""

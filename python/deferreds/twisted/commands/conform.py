@@ -23,6 +23,7 @@ import sys
 from pathlib import Path
 from typing import List, Optional
 
+from ...arguments import USAGE, Parser
 from ...bounds import MOST_ORDERS, MOST_SEED
 from ...checkout import as_called, command_name
 from ...ending import writing
@@ -68,7 +69,7 @@ def _most(word: str) -> int:
 
 def _arguments(words: List[str]) -> argparse.Namespace:
     about = __doc__.format(late=MOST_LATE, unanswered=MOST_UNANSWERED)
-    parser = argparse.ArgumentParser(
+    parser = Parser(
         prog=command_name("conform"),
         description=as_called(about),
         formatter_class=argparse.RawDescriptionHelpFormatter,
@@ -108,23 +109,19 @@ def _arguments(words: List[str]) -> argparse.Namespace:
     add("--ours", metavar="COMMAND", help="our program (default: deferreds, as it is built or installed)")
     add("--trials", type=int, default=1_000, help="at most so many runs to cut a script down (1000)")
     add("command", nargs="+", metavar="COMMAND", help="after --: the implementation, and its arguments")
-    try:
-        with writing():
-            parsed = parser.parse_args(words)
-    except SystemExit as exit_:
-        raise SystemExit(64 if exit_.code else 0) from None
+    parsed = parser.parse_args(words)
     if parsed.random < 0 or parsed.trials < 0:
         print(f"{command_name('conform')}: a number is below 0", file=sys.stderr)
-        raise SystemExit(64)
+        raise SystemExit(USAGE)
     if not parsed.rows and not parsed.random and not parsed.script:
         print(f"{command_name('conform')}: one of --rows, --random N and --script FILE is needed", file=sys.stderr)
-        raise SystemExit(64)
+        raise SystemExit(USAGE)
     if parsed.most is not None and not parsed.orders:
         print(f"{command_name('conform')}: --most is for --orders", file=sys.stderr)
-        raise SystemExit(64)
+        raise SystemExit(USAGE)
     if parsed.sample is not None and not (parsed.orders and parsed.most is None and 0 <= parsed.seed <= MOST_SEED):
         print(f"{command_name('conform')}: --sample is for --orders without --most, with a seed from 0 to {MOST_SEED}", file=sys.stderr)
-        raise SystemExit(64)
+        raise SystemExit(USAGE)
     parsed.most = parsed.most or _ORDERS
     return parsed
 

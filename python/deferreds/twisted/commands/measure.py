@@ -19,6 +19,7 @@ from typing import Iterable, Iterator, List, Optional, Sequence
 
 import twisted
 
+from ...arguments import Parser
 from ..instruments import install
 from ..programs import Broken, ours
 from ..recording.measuring import (
@@ -190,7 +191,7 @@ def _count(word: str) -> int:
 
 def main(words: List[str]) -> int:
     """The command."""
-    parser = argparse.ArgumentParser(prog="measure", description=__doc__.split("\n", 1)[0])
+    parser = Parser(prog="measure", description=__doc__.split("\n", 1)[0])
     parser.add_argument("--ours", metavar="COMMAND", help="our program (deferreds, as it is built or installed)")
     parser.add_argument("--slower", action="store_true", help="measure how much slower a recorded program is")
     parser.add_argument("--slower-tests", action="store_true", help="measure how much slower each recorded test is")

@@ -11,6 +11,7 @@ import json
 import sys
 from typing import BinaryIO, List, Optional, Tuple
 
+from ...arguments import Parser
 from ...ending import writing
 from .. import grammar
 from ..instruments import install
@@ -76,7 +77,7 @@ def _is_post(value: object) -> bool:
 
 
 def _arguments(words: List[str]) -> argparse.Namespace:
-    parser = argparse.ArgumentParser(prog="on_twisted", description=__doc__.split("\n", 1)[0])
+    parser = Parser(prog="on_twisted", description=__doc__.split("\n", 1)[0])
     parser.add_argument(
         "--batches",
         type=_batches,
@@ -86,11 +87,7 @@ def _arguments(words: List[str]) -> argparse.Namespace:
     parser.add_argument(
         "--many", action="store_true", help="answer script after script, as docs/PORTING.md says"
     )
-    try:
-        with writing():
-            return parser.parse_args(words)
-    except SystemExit as exit_:
-        raise SystemExit(64 if exit_.code else 0) from None
+    return parser.parse_args(words)
 
 
 def _once(batches: Optional[Batches]) -> int:

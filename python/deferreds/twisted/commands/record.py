@@ -6,8 +6,9 @@ is a file, or the name of a Python script on the PATH. The program runs as it is
 
 NAME.json is the script. NAME.journal is the journal and the outcomes by real Twisted. NAME.places.json says where in the program
 it happened. `--view` also writes NAME.html, a page of the run. NAME.recording lists these files. Without -o, NAME is the name of
-PROGRAM or MODULE, in the current folder. A file of another origin is only overwritten with -f. What no script can express is refused,
-with the reason and the place in the program; then NAME.json isn't written, and all other files are.
+PROGRAM or MODULE, in the current folder; `-o FOLDER/` names another folder. A file of another origin is only overwritten with -f.
+Only their owner can read the files. What no script can express is refused, with the reason and the place in the program; then
+NAME.json isn't written, and all other files are.
 
 The run is also kept if the program ends by Ctrl-C, by a signal that it doesn't handle, or by os._exit. At SIGUSR1 the run so far is
 written, and the program goes on. A forked child writes its own files, NAME.PID.json and so on. If a run is too long for a script, or
@@ -22,8 +23,8 @@ has no entry for that, no script is kept.
 
 The status is the program's own, and a program that is ended by a signal ends this command by it. If the program ended with status 0:
 0: recorded; 65: refused; 66: nothing was recorded; 73: a file couldn't be written. With --test the status is 1 if the test failed.
-If nothing was run: 64: the arguments are wrong; 66: there is no such program; 70: Twisted isn't there or isn't known; 73: a file
-can't be written.
+If nothing was run: 4: the help can't be printed; 64: the arguments are wrong; 66: there is no such program; 70: Twisted isn't there
+or isn't known; 73: a file can't be written.
 """
 
 from __future__ import annotations
@@ -38,6 +39,7 @@ from importlib.machinery import PathFinder
 from pathlib import Path
 from typing import List, Optional, Set, Tuple
 
+from ...arguments import USAGE, Parser
 from ...checkout import as_called, command_name
 from ...view.names import PLACES
 
@@ -56,7 +58,6 @@ from ..recording.recorder import Recorder
 from ..recording.saying import Said
 from ..telling import KINDS
 
-_USAGE = 64
 _NO_PROGRAM = 66
 
 
@@ -70,14 +71,14 @@ class Refused(Exception):
 
 def _arguments(words: List[str]) -> argparse.Namespace:
     """Parses the arguments. Raises SystemExit if they are wrong, with status 64, or ask for help."""
-    parser = argparse.ArgumentParser(
+    parser = Parser(
         prog=command_name("record"),
         description=as_called(__doc__),
         formatter_class=argparse.RawDescriptionHelpFormatter,
         allow_abbrev=False,
     )
     add = parser.add_argument
-    add("-o", dest="output", metavar="NAME", help="write NAME.json and NAME.journal")
+    add("-o", dest="output", metavar="NAME", help="write NAME.json and NAME.journal; folders that aren't there are made")
     add("-f", dest="overwrites", action="store_true", help="also overwrite files that aren't those of a recording")
     add("-m", dest="module", nargs=argparse.REMAINDER, metavar="MODULE [ARGS..]", help="run a module")
     add("--test", metavar="MODULE.CLASS.METHOD", help="run one test")
@@ -92,10 +93,7 @@ def _arguments(words: List[str]) -> argparse.Namespace:
     )
     add("--redact", metavar="WHAT", default=SECRETS, help="hide `all` values, those that look like `secrets` (the default), or `none`")
     add("program", nargs=argparse.REMAINDER, metavar="PROGRAM [ARGS..]")
-    try:
-        parsed = parser.parse_args(_detached(words))
-    except SystemExit as exit_:
-        raise SystemExit(_USAGE if exit_.code else 0) from None
+    parsed = parser.parse_args(_detached(words))
     if parsed.program and parsed.program[0] == "--":
         del parsed.program[0]
     return parsed
@@ -128,18 +126,18 @@ def _check(arguments: argparse.Namespace) -> None:
     plain: Set[str] = set(filter(None, arguments.plain.split(",")))
     unknown = plain - KINDS
     if unknown:
-        raise Refused(_USAGE, f"--plain has no {', '.join(sorted(unknown))}: {', '.join(sorted(KINDS))}")
+        raise Refused(USAGE, f"--plain has no {', '.join(sorted(unknown))}: {', '.join(sorted(KINDS))}")
     if arguments.redact not in CHOICES:
-        raise Refused(_USAGE, f"--redact has no {arguments.redact}: {', '.join(CHOICES)}")
+        raise Refused(USAGE, f"--redact has no {arguments.redact}: {', '.join(CHOICES)}")
     if arguments.module == []:
-        raise Refused(_USAGE, "-m needs a MODULE")
+        raise Refused(USAGE, "-m needs a MODULE")
     wanted = [bool(arguments.program), bool(arguments.module), bool(arguments.test)]
     if not any(wanted):
-        raise Refused(_USAGE, "a PROGRAM, -m MODULE or --test MODULE.CLASS.METHOD is needed; --help says more")
+        raise Refused(USAGE, "a PROGRAM, -m MODULE or --test MODULE.CLASS.METHOD is needed; --help says more")
     if arguments.test and arguments.last is not None:
-        raise Refused(_USAGE, "--last is for programs and modules, and not for --test")
+        raise Refused(USAGE, "--last is for programs and modules, and not for --test")
     if wanted.count(True) > 1:
-        raise Refused(_USAGE, "one of PROGRAM, -m MODULE and --test MODULE.CLASS.METHOD is taken, and not two")
+        raise Refused(USAGE, "one of PROGRAM, -m MODULE and --test MODULE.CLASS.METHOD is taken, and not two")
 
 
 def _refuse_module(name: str) -> None:
@@ -180,6 +178,11 @@ def _is_python(path: str) -> bool:
     return line.startswith(b"#!") and b"python" in line
 
 
+def _name(output: Optional[str], usual: str) -> str:
+    """NAME: the one that is given, or the usual one, which stands in a folder that is given."""
+    return os.path.join(output, usual) if output and output.endswith(os.sep) else output or usual
+
+
 def _keeping(arguments: argparse.Namespace, name: str, messages: Messages) -> Keeping:
     """Where the recording is kept. Raises Refused where it can't be."""
     place = Place(name, arguments.overwrites)
@@ -192,8 +195,7 @@ def _keeping(arguments: argparse.Namespace, name: str, messages: Messages) -> Ke
 
 def _program(arguments: argparse.Namespace, messages: Messages) -> int:
     target, words = _target(arguments)
-    name = target.split(".")[-1] if arguments.module else Path(target).stem
-    name = arguments.output or name
+    name = _name(arguments.output, target.split(".")[-1] if arguments.module else Path(target).stem)
     kinds = KINDS - set(arguments.plain.split(","))
     keeping = _keeping(arguments, name, messages)
     if arguments.last is None:
@@ -217,7 +219,7 @@ def _test(arguments: argparse.Namespace, messages: Messages) -> int:
         raise Refused(_NO_PROGRAM, str(why)) from None
     if len(found) != 1:
         raise Refused(_NO_PROGRAM, f"{arguments.test} isn't one test")
-    keeping = _keeping(arguments, arguments.output or found[0][1], messages)
+    keeping = _keeping(arguments, _name(arguments.output, found[0][1]), messages)
     best: Optional[Tuple[TestRun, Said]] = None
     ladder = [KINDS - set(arguments.plain.split(","))] if arguments.plain else LADDER
     for kinds in ladder:

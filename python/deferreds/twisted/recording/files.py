@@ -10,10 +10,18 @@ import tempfile
 from pathlib import Path
 from typing import Any, Dict, Iterable, List, Mapping, NamedTuple, Sequence
 
+from ...files import check_folder, digest_of, read_plain, write_whole
+
 #: the file that says which files are the recording's own
 _LIST = ".recording"
 
 _WRITER = "deferreds record"
+
+#: the list names some files and says a few facts
+_MOST_LIST = 1 << 20
+
+#: before the name of a folder of this process in that for temporary files
+_ROOM = "deferreds."
 
 
 class NoPlace(Exception):
@@ -42,12 +50,17 @@ class Place:
         self._overwrites = overwrites
 
     def check(self, endings: Iterable[str]) -> None:
-        """Raises NoPlace where a file can't be made in the folder, or where one of those is there and isn't the recording's own."""
+        """Makes the folder if it isn't there.
+
+        Raises NoPlace where a file can't be made in it, or where one of those is there and isn't the recording's own.
+        """
         try:
-            with tempfile.NamedTemporaryFile(dir=self.name.parent, prefix=f".{self.name.name}."):
-                pass
+            check_folder(self.name.parent)
         except OSError as error:
             raise NoPlace(f"{self.shown('.json')} can't be written: {error.strerror}") from None
+        folders = [ending for ending in (*endings, _LIST) if self._path(ending).is_dir()]
+        if folders:
+            raise NoPlace(f"{self.shown(folders[0])} is a folder; -o NAME gives another name")
         others = self._of_others(endings)
         if others:
             raise NoPlace(
@@ -69,14 +82,18 @@ class Place:
 
         Files of an earlier recording of the name that aren't among them are removed. If a file of another origin is there
         by now, the number of this process follows NAME. If nothing can be written there any more, it is written
-        into the folder for temporary files.
+        into a folder of its own, in that for temporary files.
         """
         if self._of_others(files):
             self.be_of_this_process()
         written = self._write(files, facts)
         if written.is_any:
             return written
-        self.name = Path(tempfile.gettempdir(), self._wanted.name + _own())
+        try:
+            room = tempfile.mkdtemp(prefix=_ROOM)
+        except OSError as error:
+            return written._replace(failures=[*written.failures, f"no folder can be made for it: {error.strerror}"])
+        self.name = Path(room, self._wanted.name + _own())
         again = self._write(files, facts)
         return again._replace(failures=[*written.failures, *again.failures])
 
@@ -91,15 +108,22 @@ class Place:
         there = [ending for ending in (*endings, _LIST) if os.path.lexists(self._path(ending))]
         if not digests:
             return there
-        return [ending for ending in there if ending != _LIST and digests.get(self._path(ending).name) != _digest(self._path(ending))]
+        return [ending for ending in there if ending != _LIST and digests.get(self._path(ending).name) != digest_of(self._path(ending))]
 
     def _listed(self) -> Dict[str, str]:
-        """The digests of the files that an earlier recording of the name has written."""
+        """The digests of the files that an earlier recording of the name has written; none, of a list that no recording wrote.
+
+        A recording writes files in the folder of the list alone, whose names begin with its own.
+        """
         try:
-            told = json.loads(self._path(_LIST).read_text(encoding="utf-8"))
-            return dict(told["files"]) if told["written by"] == _WRITER else {}
-        except (OSError, ValueError, KeyError, TypeError):
+            told = json.loads(read_plain(self._path(_LIST), _MOST_LIST))
+            files, writer = dict(told["files"]), told["written by"]
+        except (OSError, ValueError, KeyError, TypeError, RecursionError):
             return {}
+        return files if writer == _WRITER and all(map(self._is_own_name, files)) else {}
+
+    def _is_own_name(self, name: object) -> bool:
+        return isinstance(name, str) and name.startswith(f"{self.name.name}.") and "/" not in name and "\0" not in name
 
     def _write(self, files: Mapping[str, str], facts: Mapping[str, Any]) -> Written:
         before = self._listed()
@@ -108,15 +132,15 @@ class Place:
         for ending, text in files.items():
             path, data = self._path(ending), text.encode("utf-8", "backslashreplace")
             try:
-                _replace(path, data)
+                write_whole(path, data)
                 digests[path.name] = hashlib.sha256(data).hexdigest()
             except OSError as error:
                 failures.append(f"{self.shown(ending)} can't be written: {error.strerror}")
         if digests:
-            self._remove(name for name in before if name not in digests and before[name] == _digest(self.name.with_name(name)))
+            self._remove(name for name in before if name not in digests and before[name] == digest_of(self.name.with_name(name)))
             listed = {"written by": _WRITER, **facts, "files": digests}
             try:
-                _replace(self._path(_LIST), (json.dumps(listed, indent=1) + "\n").encode())
+                write_whole(self._path(_LIST), (json.dumps(listed, indent=1) + "\n").encode())
             except OSError as error:
                 failures.append(f"{self.shown(_LIST)} can't be written: {error.strerror}")
         return Written(self.shown(""), bool(digests), failures)
@@ -129,24 +153,3 @@ class Place:
 
 def _own() -> str:
     return f".{os.getpid()}"
-
-
-def _digest(path: Path) -> str:
-    """The SHA-256 of a file; none, of what can't be read."""
-    try:
-        return hashlib.sha256(path.read_bytes()).hexdigest()
-    except OSError:
-        return ""
-
-
-def _replace(path: Path, data: bytes) -> None:
-    """Writes a file under another name, and gives it its own when it is whole. Raises OSError, and leaves what was there."""
-    half = path.with_name(f".{path.name}.{os.getpid()}.tmp")
-    try:
-        with half.open("wb") as file:
-            file.write(data)
-        os.replace(half, path)
-    except BaseException:
-        with contextlib.suppress(OSError):
-            half.unlink()
-        raise
