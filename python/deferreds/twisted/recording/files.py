@@ -3,21 +3,35 @@
 from __future__ import annotations
 
 import contextlib
-import hashlib
 import json
 import os
 import tempfile
 from pathlib import Path
-from typing import Any, Dict, Iterable, List, Mapping, NamedTuple, Sequence
+from typing import Any, Dict, Iterable, List, Mapping, NamedTuple, Sequence, Tuple
+
+from ...view.names import PLACES
+from .replacing import Failed, Halves, digest_of, place_left, remove_left
 
 #: the file that says which files are the recording's own
 _LIST = ".recording"
 
 _WRITER = "deferreds record"
 
+#: the endings of all files of a recording but that list, and of those without which it is whole
+ENDINGS = (".json", ".journal", ".whole.journal", PLACES, ".html")
+_MAY_BE_MISSING = frozenset({PLACES, ".html"})
+
 
 class NoPlace(Exception):
     """A recording can't be written where it is wanted: why, in one line."""
+
+
+class _Listed(NamedTuple):
+    """What a list of files says: their digests, those of the files that they have replaced, and the process that has written it."""
+
+    digests: Dict[str, str]
+    replaced: Dict[str, str]
+    process: int
 
 
 class Written(NamedTuple):
@@ -48,6 +62,7 @@ class Place:
                 pass
         except OSError as error:
             raise NoPlace(f"{self.shown('.json')} can't be written: {error.strerror}") from None
+        self._tidy()
         others = self._of_others(endings)
         if others:
             raise NoPlace(
@@ -67,18 +82,29 @@ class Place:
     def write(self, files: Mapping[str, str], facts: Mapping[str, Any]) -> Written:
         """Writes these texts as files, by the endings of their names, and the list of them with these facts.
 
-        Files of an earlier recording of the name that aren't among them are removed. If a file of another origin is there
-        by now, the number of this process follows NAME. If nothing can be written there any more, it is written
-        into the folder for temporary files.
+        At each moment the recording that was there is whole, or the new one is; files of the earlier one that the new one hasn't are
+        removed. If a file of another origin is there by now, the number of this process follows NAME. If the new one can't be
+        written there, the earlier one stays, and the new one is written into the folder for temporary files.
         """
         if self._of_others(files):
             self.be_of_this_process()
         written = self._write(files, facts)
         if written.is_any:
             return written
-        self.name = Path(tempfile.gettempdir(), self._wanted.name + _own())
+        failures = [*written.failures, *self._stays()]
+        try:
+            self.name = Path(tempfile.gettempdir(), self._wanted.name + _own())
+        except OSError as error:
+            return written._replace(failures=[*failures, f"there is no other folder for it: {error.strerror}"])
+        others = self._of_others(files)
+        if others:
+            return written._replace(failures=[*failures, f"{self.shown(others[0])} is there, and isn't a recording"])
         again = self._write(files, facts)
-        return again._replace(failures=[*written.failures, *again.failures])
+        return again._replace(failures=[*failures, *again.failures])
+
+    def _stays(self) -> List[str]:
+        """That the earlier recording is as it was, if there is one."""
+        return [f"the recording that was there is as it was: {self.shown('')}"] if self._listed() else []
 
     def _path(self, ending: str) -> Path:
         return self.name.with_name(self.name.name + ending)
@@ -91,62 +117,87 @@ class Place:
         there = [ending for ending in (*endings, _LIST) if os.path.lexists(self._path(ending))]
         if not digests:
             return there
-        return [ending for ending in there if ending != _LIST and digests.get(self._path(ending).name) != _digest(self._path(ending))]
+        return [ending for ending in there if ending != _LIST and digests.get(self._path(ending).name) != digest_of(self._path(ending))]
 
     def _listed(self) -> Dict[str, str]:
         """The digests of the files that an earlier recording of the name has written."""
+        return self._read_list().digests
+
+    def _read_list(self) -> _Listed:
         try:
             told = json.loads(self._path(_LIST).read_text(encoding="utf-8"))
-            return dict(told["files"]) if told["written by"] == _WRITER else {}
+            if told["written by"] == _WRITER:
+                return _Listed(dict(told["files"]), dict(told.get("replaced", {})), int(told.get("process", 0)))
         except (OSError, ValueError, KeyError, TypeError):
-            return {}
+            pass
+        return _Listed({}, {}, 0)
+
+    def _tidy(self) -> None:
+        """Ends what processes have begun that were killed while they wrote: files get their names, and others are removed."""
+        folder, listed = self.name.parent, self._read_list()
+        if listed.process:
+            place_left(folder, listed.process, listed.digests)
+            self._remove(listed.replaced, listed.digests)
+        remove_left(folder, [self._path(ending).name for ending in (*ENDINGS, _LIST)])
 
     def _write(self, files: Mapping[str, str], facts: Mapping[str, Any]) -> Written:
-        before = self._listed()
-        failures: List[str] = []
-        digests: Dict[str, str] = {}
-        for ending, text in files.items():
-            path, data = self._path(ending), text.encode("utf-8", "backslashreplace")
-            try:
-                _replace(path, data)
-                digests[path.name] = hashlib.sha256(data).hexdigest()
-            except OSError as error:
-                failures.append(f"{self.shown(ending)} can't be written: {error.strerror}")
-        if digests:
-            self._remove(name for name in before if name not in digests and before[name] == _digest(self.name.with_name(name)))
-            listed = {"written by": _WRITER, **facts, "files": digests}
-            try:
-                _replace(self._path(_LIST), (json.dumps(listed, indent=1) + "\n").encode())
-            except OSError as error:
-                failures.append(f"{self.shown(_LIST)} can't be written: {error.strerror}")
-        return Written(self.shown(""), bool(digests), failures)
+        replaced = self._listed()
+        halves = Halves(self.name.parent)
+        try:
+            digests, failures = self._write_halves(halves, files)
+            listed = {"written by": _WRITER, "process": os.getpid(), **facts, "files": digests, "replaced": replaced}
+            halves.write(self._path(_LIST).name, (json.dumps(listed, indent=1) + "\n").encode())
+            halves.sync()
+            halves.place(self._path(_LIST).name)
+        except Failed as why:
+            halves.remove()
+            return Written(self.shown(""), False, [self._said(why)])
+        except BaseException:
+            halves.remove()
+            raise
+        return Written(self.shown(""), True, [*failures, *self._place(halves, digests, replaced)])
 
-    def _remove(self, names: Iterable[str]) -> None:
-        for name in names:
-            with contextlib.suppress(OSError):
-                self.name.with_name(name).unlink()
+    def _write_halves(self, halves: Halves, files: Mapping[str, str]) -> Tuple[Dict[str, str], List[str]]:
+        """Writes the halves of all files, and gives their digests, and why those couldn't be written that may be missing."""
+        digests: Dict[str, str] = {}
+        failures: List[str] = []
+        for ending, text in files.items():
+            name = self._path(ending).name
+            try:
+                digests[name] = halves.write(name, text.encode("utf-8", "backslashreplace"))
+            except Failed as why:
+                if ending not in _MAY_BE_MISSING:
+                    raise
+                failures.append(self._said(why))
+        return digests, failures
+
+    def _place(self, halves: Halves, digests: Mapping[str, str], replaced: Mapping[str, str]) -> List[str]:
+        """Gives all halves their names, and removes files that only the earlier recording had. Gives what has failed."""
+        failures: List[str] = []
+        for name in digests:
+            try:
+                halves.place(name)
+            except Failed as why:
+                failures.append(self._said(why))
+        self._remove(replaced, digests)
+        try:
+            halves.sync()
+        except Failed as why:
+            failures.append(self._said(why))
+        return failures
+
+    def _remove(self, digests: Mapping[str, str], kept: Mapping[str, str]) -> None:
+        """Removes the files that have these digests, but for those that are kept."""
+        for name, digest in digests.items():
+            path = self.name.with_name(name)
+            if name not in kept and digest_of(path) == digest:
+                with contextlib.suppress(OSError):
+                    path.unlink()
+
+    def _said(self, why: Failed) -> str:
+        """What has failed, with the path of the file as it was wanted."""
+        return f"{self.shown(why.name[len(self.name.name):])} {why}" if why.name.startswith(self.name.name) else str(why)
 
 
 def _own() -> str:
     return f".{os.getpid()}"
-
-
-def _digest(path: Path) -> str:
-    """The SHA-256 of a file; none, of what can't be read."""
-    try:
-        return hashlib.sha256(path.read_bytes()).hexdigest()
-    except OSError:
-        return ""
-
-
-def _replace(path: Path, data: bytes) -> None:
-    """Writes a file under another name, and gives it its own when it is whole. Raises OSError, and leaves what was there."""
-    half = path.with_name(f".{path.name}.{os.getpid()}.tmp")
-    try:
-        with half.open("wb") as file:
-            file.write(data)
-        os.replace(half, path)
-    except BaseException:
-        with contextlib.suppress(OSError):
-            half.unlink()
-        raise
