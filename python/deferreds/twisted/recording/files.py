@@ -71,7 +71,10 @@ class Place:
 
     def shown(self, ending: str) -> str:
         """The path of a file, as it was wanted: by the folder of the start, where it is below that."""
-        path = os.fspath(self._path(ending))
+        return self._short(self._path(ending))
+
+    def _short(self, name: Path) -> str:
+        path = os.fspath(name)
         below = os.path.join(self._folder, "")
         return path[len(below) :] if path.startswith(below) else path
 
@@ -91,7 +94,7 @@ class Place:
         written = self._write(files, facts)
         if written.is_any:
             return written
-        failures = [*written.failures, *self._stays()]
+        failures = [*written.failures, *filter(None, [self.what_stays()])]
         try:
             self.name = Path(tempfile.gettempdir(), self._wanted.name + _own())
         except OSError as error:
@@ -102,9 +105,10 @@ class Place:
         again = self._write(files, facts)
         return again._replace(failures=[*failures, *again.failures])
 
-    def _stays(self) -> List[str]:
+    def what_stays(self) -> str:
         """That the earlier recording is as it was, if there is one."""
-        return [f"the recording that was there is as it was: {self.shown('')}"] if self._listed() else []
+        earlier = self._wanted.with_name(self._wanted.name + _LIST)
+        return f"the recording that was there is as it was: {self._short(self._wanted)}" if os.path.lexists(earlier) else ""
 
     def _path(self, ending: str) -> Path:
         return self.name.with_name(self.name.name + ending)
