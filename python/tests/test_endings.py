@@ -11,13 +11,17 @@ import signal
 import unittest
 from pathlib import Path
 from typing import List, Optional
+from unittest import mock
 
 from twisted.internet import defer
 
 from deferreds.testing.folder import Folder
 from deferreds.twisted.instruments import install
 from deferreds.twisted.programs import Answer, Batches, Broken, Program
+from deferreds.twisted.recording import endings
+from deferreds.twisted.recording.endings import Endings
 from deferreds.twisted.recording.files import Place
+from deferreds.twisted.recording.keeper import Keeper
 from deferreds.twisted.recording.keeping import Keeping, Status
 from deferreds.twisted.recording.messages import Messages
 from deferreds.twisted.recording.outcomes import outcomes_of
@@ -214,6 +218,79 @@ class Files(RecordingCase):
         (room,) = (self.folder / "temporary").iterdir()
         self.assertEqual(room.stat().st_mode & 0o777, 0o700)
         self.assert_goes_together(f"temporary/{room.name}/run.{process.pid}")
+
+
+class Limits(RecordingCase):
+    """What a process may have is used up."""
+
+    def test_descriptors(self) -> None:
+        self.assertEqual(self.record("-o", "run", "configured.py").status, 0)
+        ended = self.record("-o", "run", "limits_descriptors.py", "128")
+        self.assertEqual((ended.status, ended.printed), (0, "Too many open files\n"), ended.said)
+        self.assertEqual(self.facts("run")["events"], 2)
+        self.assert_goes_together("run")
+
+    def test_descriptors_of_which_the_program_has_closed_and_taken_those_in_reserve(self) -> None:
+        self.assertEqual(self.record("-o", "run", "configured.py").status, 0)
+        before = self.text("run.json")
+        ended = self.record("-o", "run", "limits_descriptors.py", "20")
+        self.assertEqual((ended.status, ended.printed, self.text("run.json")), (73, "Too many open files\n", before), ended.said)
+        self.assertIn("can't be opened: Too many open files\n", ended.said)
+        self.assertIn("the recording that was there is as it was: run\n", ended.said)
+
+    def test_memory_that_the_program_takes(self) -> None:
+        ended = self.record("-o", "run", "limits_memory.py", "100", "10", "takes")
+        self.assertEqual((ended.status, ended.printed), (0, "9\nout of memory\n"), ended.said)
+        self.assert_goes_together("run")
+
+    def test_memory_that_the_recording_takes(self) -> None:
+        ended = self.record("-o", "run", "limits_memory.py", "80", "60000")
+        self.assertEqual((ended.status, ended.printed), (0, "59999\n"), ended.said)
+        self.assertIn("memory is short: the program goes on, and the recording ends here", ended.said)
+        self.assertEqual(self.facts("run")["ended"], "memory is short")
+        self.assert_goes_together("run")
+
+    def test_memory_that_isnt_enough_to_write(self) -> None:
+        messages, place = RecordingMessages(), Place(str(self.folder / "run"))
+        keeper = Keeper(Recorder(), Keeping(place, messages, False, None))
+        with mock.patch.object(Keeping, "keep", side_effect=MemoryError):
+            self.assertEqual(keeper.keep("status 0"), Status.NOT_WRITTEN)
+        self.assertEqual(messages.said, ["the run can't be kept: out of memory"])
+
+
+class RecordingMessages(Messages):
+    """Keeps what is said."""
+
+    def __init__(self) -> None:
+        super().__init__("record")
+        self.said: List[str] = []
+
+    def say(self, text: str) -> None:
+        self.said.append(text)
+
+
+class Busy(unittest.TestCase):
+    """A signal comes while the run is being kept."""
+
+    def ended_by(self, times: int, ends: "mock.Mock") -> int:
+        """How a process ends that gets SIGTERM so often, whose run is kept so."""
+        child = os.fork()
+        if child == 0:
+            with mock.patch.object(endings, "_SAME_SECONDS", 0.0), Endings(ends).watched():
+                for _ in range(times):
+                    with contextlib.suppress(MemoryError):
+                        os.kill(os.getpid(), signal.SIGTERM)
+            os._exit(7)
+        status = os.waitpid(child, 0)[1]
+        return -os.WTERMSIG(status) if os.WIFSIGNALED(status) else os.WEXITSTATUS(status)
+
+    def test_the_first_waits_and_a_later_one_ends_the_process(self) -> None:
+        ends = mock.Mock(ends=mock.Mock(return_value=False))
+        self.assertEqual(self.ended_by(1, ends), 7)
+        self.assertEqual(self.ended_by(2, ends), -signal.SIGTERM)
+
+    def test_it_ends_the_process_whatever_fails(self) -> None:
+        self.assertEqual(self.ended_by(1, mock.Mock(ends=mock.Mock(side_effect=MemoryError))), -signal.SIGTERM)
 
 
 class Told(RecordingCase):

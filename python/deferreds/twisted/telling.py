@@ -389,12 +389,12 @@ class Watching:
             del observers_on[-1]
             observer.is_on = False
         else:
-            _take_off(observer.lineage)
+            take_off(observer.lineage)
         if getrecursionlimit() == limit * observer.stack_room:
             setrecursionlimit(limit)
 
 
-def _take_off(lineage: object) -> None:
+def take_off(lineage: object) -> None:
     """Has the observer that has taken over from another be on no more."""
     for observer in [observer for observer in observers_on if observer.lineage is lineage]:
         observers_on.remove(observer)

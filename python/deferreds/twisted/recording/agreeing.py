@@ -37,6 +37,8 @@ def agreement(said: Said, asked: Optional[Program]) -> Agreement:
         answer = asked.answer(said.text)
     except Broken as why:
         return Agreement(False, f"not compared: {why}")
+    except OSError as error:
+        return Agreement(False, f"not compared: {error.strerror}")
     if answer.status < 0:
         return Agreement(False, f"not compared: {answer.errors.strip() or 'no answer'}")
     first = compared(answer, Answer(0, said.output, ""))

@@ -145,6 +145,24 @@ def bodies_of(action: Action) -> Iterator[Body]:
             yield from part.bodies
 
 
+def forget_bodies(part: Any) -> None:
+    """Empties the runs of all bodies that an action has."""
+    waiting = [part]
+    while waiting:
+        part = waiting.pop()
+        if isinstance(part, Body):
+            runs, part.runs = part.runs, []
+            waiting.extend(runs)
+        elif isinstance(part, Run):
+            actions = part.actions
+            part.forget()
+            waiting.extend(actions)
+        elif isinstance(part, list):
+            waiting.extend(part)
+        elif isinstance(part, Steps):
+            waiting.extend(part.bodies)
+
+
 def in_words(action: Action) -> str:
     """What an action is of, in words."""
     named = next((part for part in action if isinstance(part, (Record, Thing))), None)

@@ -12,6 +12,7 @@ import functools
 import os
 import signal
 import sys
+import time
 from types import FrameType
 from typing import Any, Callable, Dict, Iterator, List, NoReturn, Optional, Protocol, Tuple
 
@@ -25,8 +26,21 @@ _ENDING = tuple(
 #: the signal at which a run is kept and goes on
 ASKING = signal.SIGUSR1
 
+#: for how many seconds a signal counts as the same one: `timeout` sends it to a process and to its group
+_SAME_SECONDS = 1.0
+
 #: the functions of `os` that put another program in the place of this one: all others call these
 _REPLACING = ("execv", "execve")
+
+
+@contextlib.contextmanager
+def signals_waiting() -> Iterator[None]:
+    """Has signals that end a process come after what is done in this."""
+    before = signal.pthread_sigmask(signal.SIG_BLOCK, (*_ENDING, ASKING))
+    try:
+        yield
+    finally:
+        signal.pthread_sigmask(signal.SIG_SETMASK, before)
 
 
 class Watcher(Protocol):
@@ -35,7 +49,7 @@ class Watcher(Protocol):
     def ends(self, how: str, frame: Optional[FrameType]) -> bool:
         """The process ends after this call: how, and the frame of the program that runs. Raises nothing.
 
-        Gives whether it may end: it may not while the run is being kept, after which it ends in any case.
+        Gives whether it may end: it may not while the run is being kept, after which it ends in any case, and at once by another signal.
         """
 
     def becomes_another(self, how: str, frame: Optional[FrameType]) -> None:
@@ -76,6 +90,8 @@ class Endings:
         self._watcher = watcher
         #: what the program has set for the signals that are handled here
         self._set: Dict[int, Any] = {}
+        #: when the first signal came that ends the process
+        self._since: Optional[float] = None
         self._signal = signal.signal
         self._getsignal = signal.getsignal
         self._exit = os._exit
@@ -160,10 +176,16 @@ class Endings:
         return self._set[number] if handler in (self._on_end, self._on_asking) else handler
 
     def _on_end(self, number: int, frame: Optional[FrameType]) -> None:
-        """A signal that nobody handles: the process ends by it."""
-        if self._watcher.ends(signal.Signals(number).name, frame):
-            self._signal(number, signal.SIG_DFL)
-            os.kill(os.getpid(), number)
+        """A signal that nobody handles: the process ends by it. One that comes later ends it at once, though the run is being kept."""
+        since, self._since = self._since, self._since or time.monotonic()
+        ends_now = True
+        try:
+            if since is None or time.monotonic() - since < _SAME_SECONDS:
+                ends_now = self._watcher.ends(signal.Signals(number).name, frame)
+        finally:
+            if ends_now:
+                self._signal(number, signal.SIG_DFL)
+                os.kill(os.getpid(), number)
 
     def _on_asking(self, number: int, frame: Optional[FrameType]) -> None:
         """The signal that asks for the run so far. What the program has set for it follows."""

@@ -3,14 +3,15 @@
 from __future__ import annotations
 
 import contextlib
-import hashlib
 import json
 import os
 import tempfile
 from pathlib import Path
-from typing import Any, Dict, Iterable, List, Mapping, NamedTuple, Sequence
+from typing import Any, Dict, Iterable, List, Mapping, NamedTuple, Sequence, Tuple
 
-from ...files import check_folder, digest_of, read_plain, write_whole
+from ...files import check_folder
+from ...view.names import PLACES
+from .replacing import Failed, Halves, digest_of, place_left, read_plain, remove_left
 
 #: the file that says which files are the recording's own
 _LIST = ".recording"
@@ -23,9 +24,21 @@ _MOST_LIST = 1 << 20
 #: before the name of a folder of this process in that for temporary files
 _ROOM = "deferreds."
 
+#: the endings of all files of a recording but that list, and of those without which it is whole
+ENDINGS = (".json", ".journal", ".whole.journal", PLACES, ".html")
+_MAY_BE_MISSING = frozenset({PLACES, ".html"})
+
 
 class NoPlace(Exception):
     """A recording can't be written where it is wanted: why, in one line."""
+
+
+class _Listed(NamedTuple):
+    """What a list of files says: their digests, those of the files that they have replaced, and the process that has written it."""
+
+    digests: Dict[str, str]
+    replaced: Dict[str, str]
+    process: int
 
 
 class Written(NamedTuple):
@@ -61,6 +74,7 @@ class Place:
         folders = [ending for ending in (*endings, _LIST) if self._path(ending).is_dir()]
         if folders:
             raise NoPlace(f"{self.shown(folders[0])} is a folder; -o NAME gives another name")
+        self._tidy()
         others = self._of_others(endings)
         if others:
             raise NoPlace(
@@ -69,7 +83,10 @@ class Place:
 
     def shown(self, ending: str) -> str:
         """The path of a file, as it was wanted: by the folder of the start, where it is below that."""
-        path = os.fspath(self._path(ending))
+        return self._short(self._path(ending))
+
+    def _short(self, name: Path) -> str:
+        path = os.fspath(name)
         below = os.path.join(self._folder, "")
         return path[len(below) :] if path.startswith(below) else path
 
@@ -80,22 +97,28 @@ class Place:
     def write(self, files: Mapping[str, str], facts: Mapping[str, Any]) -> Written:
         """Writes these texts as files, by the endings of their names, and the list of them with these facts.
 
-        Files of an earlier recording of the name that aren't among them are removed. If a file of another origin is there
-        by now, the number of this process follows NAME. If nothing can be written there any more, it is written
-        into a folder of its own, in that for temporary files.
+        At each moment the recording that was there is whole, or the new one is; files of the earlier one that the new one hasn't are
+        removed. If a file of another origin is there by now, the number of this process follows NAME. If the new one can't be
+        written there, the earlier one stays, and the new one is written into a folder of its own, in that for temporary files.
         """
         if self._of_others(files):
             self.be_of_this_process()
         written = self._write(files, facts)
         if written.is_any:
             return written
+        failures = [*written.failures, *filter(None, [self.what_stays()])]
         try:
             room = tempfile.mkdtemp(prefix=_ROOM)
         except OSError as error:
-            return written._replace(failures=[*written.failures, f"no folder can be made for it: {error.strerror}"])
+            return written._replace(failures=[*failures, f"no other folder can be made for it: {error.strerror}"])
         self.name = Path(room, self._wanted.name + _own())
         again = self._write(files, facts)
-        return again._replace(failures=[*written.failures, *again.failures])
+        return again._replace(failures=[*failures, *again.failures])
+
+    def what_stays(self) -> str:
+        """That the earlier recording is as it was, if there is one."""
+        earlier = self._wanted.with_name(self._wanted.name + _LIST)
+        return f"the recording that was there is as it was: {self._short(self._wanted)}" if os.path.lexists(earlier) else ""
 
     def _path(self, ending: str) -> Path:
         return self.name.with_name(self.name.name + ending)
@@ -111,44 +134,88 @@ class Place:
         return [ending for ending in there if ending != _LIST and digests.get(self._path(ending).name) != digest_of(self._path(ending))]
 
     def _listed(self) -> Dict[str, str]:
-        """The digests of the files that an earlier recording of the name has written; none, of a list that no recording wrote.
+        """The digests of the files that an earlier recording of the name has written."""
+        return self._read_list().digests
 
-        A recording writes files in the folder of the list alone, whose names begin with its own.
-        """
+    def _read_list(self) -> _Listed:
         try:
             told = json.loads(read_plain(self._path(_LIST), _MOST_LIST))
-            files, writer = dict(told["files"]), told["written by"]
-        except (OSError, ValueError, KeyError, TypeError, RecursionError):
-            return {}
-        return files if writer == _WRITER and all(map(self._is_own_name, files)) else {}
+            listed = _Listed(dict(told["files"]), dict(told.get("replaced", {})), int(told.get("process", 0)))
+            is_ours = told["written by"] == _WRITER
+        except (OSError, ValueError, KeyError, TypeError, RecursionError, OverflowError):
+            return _Listed({}, {}, 0)
+        are_own = all(map(self._is_own_name, (*listed.digests, *listed.replaced)))
+        return listed if is_ours and are_own else _Listed({}, {}, 0)
 
     def _is_own_name(self, name: object) -> bool:
+        """Whether a recording of this name writes such a file: in the folder of the list, and with a name that begins with its own."""
         return isinstance(name, str) and name.startswith(f"{self.name.name}.") and "/" not in name and "\0" not in name
 
-    def _write(self, files: Mapping[str, str], facts: Mapping[str, Any]) -> Written:
-        before = self._listed()
-        failures: List[str] = []
-        digests: Dict[str, str] = {}
-        for ending, text in files.items():
-            path, data = self._path(ending), text.encode("utf-8", "backslashreplace")
-            try:
-                write_whole(path, data)
-                digests[path.name] = hashlib.sha256(data).hexdigest()
-            except OSError as error:
-                failures.append(f"{self.shown(ending)} can't be written: {error.strerror}")
-        if digests:
-            self._remove(name for name in before if name not in digests and before[name] == digest_of(self.name.with_name(name)))
-            listed = {"written by": _WRITER, **facts, "files": digests}
-            try:
-                write_whole(self._path(_LIST), (json.dumps(listed, indent=1) + "\n").encode())
-            except OSError as error:
-                failures.append(f"{self.shown(_LIST)} can't be written: {error.strerror}")
-        return Written(self.shown(""), bool(digests), failures)
+    def _tidy(self) -> None:
+        """Ends what processes have begun that were killed while they wrote: files get their names, and others are removed."""
+        folder, listed = self.name.parent, self._read_list()
+        if listed.process:
+            place_left(folder, listed.process, listed.digests)
+            self._remove(listed.replaced, listed.digests)
+        remove_left(folder, [self._path(ending).name for ending in (*ENDINGS, _LIST)])
 
-    def _remove(self, names: Iterable[str]) -> None:
-        for name in names:
-            with contextlib.suppress(OSError):
-                self.name.with_name(name).unlink()
+    def _write(self, files: Mapping[str, str], facts: Mapping[str, Any]) -> Written:
+        replaced = self._listed()
+        halves = Halves(self.name.parent)
+        try:
+            digests, failures = self._write_halves(halves, files)
+            listed = {"written by": _WRITER, "process": os.getpid(), **facts, "files": digests, "replaced": replaced}
+            halves.write(self._path(_LIST).name, (json.dumps(listed, indent=1) + "\n").encode())
+            halves.sync()
+            halves.place(self._path(_LIST).name)
+        except Failed as why:
+            halves.remove()
+            return Written(self.shown(""), False, [self._said(why)])
+        except BaseException:
+            halves.remove()
+            raise
+        return Written(self.shown(""), True, [*failures, *self._place(halves, digests, replaced)])
+
+    def _write_halves(self, halves: Halves, files: Mapping[str, str]) -> Tuple[Dict[str, str], List[str]]:
+        """Writes the halves of all files, and gives their digests, and why those couldn't be written that may be missing."""
+        digests: Dict[str, str] = {}
+        failures: List[str] = []
+        for ending, text in files.items():
+            name = self._path(ending).name
+            try:
+                digests[name] = halves.write(name, text.encode("utf-8", "backslashreplace"))
+            except Failed as why:
+                if ending not in _MAY_BE_MISSING:
+                    raise
+                failures.append(self._said(why))
+        return digests, failures
+
+    def _place(self, halves: Halves, digests: Mapping[str, str], replaced: Mapping[str, str]) -> List[str]:
+        """Gives all halves their names, and removes files that only the earlier recording had. Gives what has failed."""
+        failures: List[str] = []
+        for name in digests:
+            try:
+                halves.place(name)
+            except Failed as why:
+                failures.append(self._said(why))
+        self._remove(replaced, digests)
+        try:
+            halves.sync()
+        except Failed as why:
+            failures.append(self._said(why))
+        return failures
+
+    def _remove(self, digests: Mapping[str, str], kept: Mapping[str, str]) -> None:
+        """Removes the files that have these digests, but for those that are kept."""
+        for name, digest in digests.items():
+            path = self.name.with_name(name)
+            if name not in kept and digest_of(path) == digest:
+                with contextlib.suppress(OSError):
+                    path.unlink()
+
+    def _said(self, why: Failed) -> str:
+        """What has failed, with the path of the file as it was wanted."""
+        return f"{self.shown(why.name[len(self.name.name):])} {why}" if why.name.startswith(self.name.name) else str(why)
 
 
 def _own() -> str:

@@ -11,10 +11,12 @@ from typing import Callable, List, Optional, Tuple
 
 from ..instruments.pace import Pace
 from ..telling import Observer
+from .endings import signals_waiting
 from .keeping import Keeping, Status
 from .last import LastRecorder
 from .messages import file_of
 from .recorder import Recorder
+from .room import Reserve, memory_left
 from .saying import Said
 
 #: the code that logs lines, of an event that isn't noted yet
@@ -29,6 +31,13 @@ _exit = os._exit
 
 #: how many seconds a copy that writes is waited for
 _MOST_SECONDS = 60.0
+
+#: after how many more parts of lines the memory that is left is looked at, and how many bytes it takes to write one part, and a run
+_EACH_PARTS = 1 << 15
+_BYTES_OF_PART = 320
+_BYTES_OF_RUN = 32 << 20
+
+_SHORT = "memory is short"
 
 
 def _forked() -> int:
@@ -52,10 +61,29 @@ class Keeper:
         self._writers: List[Tuple[int, object]] = []
         #: the recorder when this process was forked, and how many parts of lines it had told
         self._forked_at: Optional[Tuple[Recorder, int]] = None
+        self._reserve = Reserve()
+        #: the result of the recording, once it has ended before the program
+        self._ended_early: Optional[Status] = None
+        self.take_over(recorder)
 
     def take_over(self, recorder: Recorder) -> None:
         """From here on this one records."""
         self._recorder = recorder
+        recorder.look, recorder.looks_at = self._look, _EACH_PARTS
+
+    def _look(self) -> None:
+        """Ends the recording before the program, if what memory is left is only enough to write it."""
+        recorder = self._recorder
+        if not recorder.is_between_events():
+            return
+        recorder.looks_at = len(recorder.parts) + _EACH_PARTS
+        left = memory_left()
+        if left is None or left > len(recorder.parts) * _BYTES_OF_PART + _BYTES_OF_RUN:
+            return
+        self._keeping.messages.say(f"{_SHORT}: the program goes on, and the recording ends here. --last N records the last events alone")
+        with signals_waiting():
+            self._ended_early = self.keep(_SHORT)
+            recorder.stop()
 
     @property
     def is_idle_child(self) -> bool:
@@ -66,10 +94,17 @@ class Keeper:
         """Keeps the run so far, which ended so; the frame is that of the program, where that runs."""
         if self.is_idle_child:
             return Status.RECORDED
+        if self._ended_early is not None:
+            return self._ended_early
         is_busy, self._is_busy = self._is_busy, True
         try:
-            self._wait_for_writers()
-            return self._keep(how, self._ended(frame))
+            with self._reserve.released():
+                self._wait_for_writers()
+                return self._keep(how, self._ended(frame))
+        except MemoryError:
+            self._recorder.forget()
+            self._keeping.say_lost("out of memory")
+            return Status.NOT_WRITTEN
         finally:
             self._is_busy = is_busy
 
@@ -93,7 +128,7 @@ class Keeper:
         try:
             self.keep(how, frame)
         except BaseException as error:  # (Ctrl-C, too: the process ends in any case)
-            self._keeping.messages.say(f"the run can't be kept: {type(error).__name__}: {error}")
+            self._keeping.say_lost(f"{type(error).__name__}: {error}")
         return True
 
     def becomes_another(self, how: str, frame: Optional[FrameType]) -> None:

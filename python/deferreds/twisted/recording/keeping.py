@@ -59,6 +59,13 @@ class Keeping:
             return Status.NOTHING
         return self._write(said, how, earlier)
 
+    def say_lost(self, why: str) -> None:
+        """Says that the run can't be kept, and that the earlier recording is as it was, if there is one."""
+        self.messages.say(f"the run can't be kept: {why}")
+        stays = self.place.what_stays()
+        if stays:
+            self.messages.say(stays)
+
     def _write_refused(self, said: Said, how: str, earlier: int, refusals: "list[Problem]") -> Status:
         """Writes the journal, and if it is wanted the page, of a run that a script can't say."""
         why = "; ".join(dict.fromkeys(problem.reason for problem in refusals)) or "it has no words for it"

@@ -15,11 +15,11 @@ from typing import Any, Callable, List, Optional
 
 from twisted.internet.defer import Deferred
 
-from ..instruments.deferreds import result_of, runs_callbacks, take_over, take_over_canceller
+from ..instruments.deferreds import result_of, take_over, take_over_canceller
 from ..instruments.tasks import FURTHER
-from ..telling import Action, Observer, Record, watched
+from ..telling import Action, Observer, Record
 from ..texts import NULL, Outcome
-from .bodies import Body, Run, Steps, Unsayable
+from .bodies import Body, Run, Unsayable, forget_bodies
 from .places import place
 from .recorder import Recorder
 from .saying import Said
@@ -103,12 +103,8 @@ class LastRecorder(Recorder):
     def _end_recording(self, outer: bool) -> None:
         """An action has been recorded, in which another one may be recorded."""
         self._records = outer
-        if len(self.events) >= self._count and self._is_between_events():
+        if len(self.events) >= self._count and not self._records and self.is_between_events():
             self._hand_over()
-
-    def _is_between_events(self) -> bool:
-        is_outside = self.frame is self.top and not self.acting and not self.top.expected
-        return is_outside and not self._records and watched.observer is self and not runs_callbacks()
 
     def _hand_over(self) -> None:
         if self.before is not None:
@@ -119,16 +115,15 @@ class LastRecorder(Recorder):
         self._took_over(following)
 
     def forget(self) -> None:
-        """Keeps nothing of what was recorded: Deferreds from then still refer to this recorder."""
-        for action in (*self._stood_events, *self.events):
-            _forget(action)
-        for record in (*self._stood_records, *self.records):
+        """Keeps nothing of what was recorded, nor of what stood."""
+        for action in self._stood_events:
+            forget_bodies(action)
+        for record in self._stood_records:
             record.made_in = record.side = record.body = None
-        everything: List[List[Any]] = [self.events, self.parts, self.records, self.failed, self.quirks, self.begins]
-        for kept in (*everything, self._stood_events, self._stood_parts, self._stood_records, self._stood_begins):
+        stood: List[List[Any]] = [self._stood_events, self._stood_parts, self._stood_records, self._stood_begins]
+        for kept in stood:
             kept.clear()
-        self.spots.forget()
-        self._clock = self.pace = self.cooperator = None
+        super().forget()
 
     # Deferreds
 
@@ -310,21 +305,3 @@ def _first_waited_for(deferred: Any) -> Any:
             return None
         seen.add(id(deferred))
     return deferred
-
-
-def _forget(part: Any) -> None:
-    """Empties the runs of all bodies that an action has."""
-    waiting = [part]
-    while waiting:
-        part = waiting.pop()
-        if isinstance(part, Body):
-            runs, part.runs = part.runs, []
-            waiting.extend(runs)
-        elif isinstance(part, Run):
-            actions = part.actions
-            part.forget()
-            waiting.extend(actions)
-        elif isinstance(part, list):
-            waiting.extend(part)
-        elif isinstance(part, Steps):
-            waiting.extend(part.bodies)

@@ -11,7 +11,7 @@ from typing import Optional, Tuple
 _STANDARD_ERROR = 2
 
 #: numbers below this one are left to the program, which may count on the next free one
-_FIRST = 100
+FIRST = 100
 
 #: how many seconds a message waits for a reader that is slow, where standard error doesn't block
 _PATIENCE = 1.0
@@ -49,7 +49,7 @@ class Messages:
 
 def _duplicate() -> Optional[int]:
     """A descriptor of its own for standard error, or none, where that is closed."""
-    for first in (_FIRST, 0):  # a limit may leave no numbers from the first on
+    for first in (FIRST, 0):  # a limit may leave no numbers from the first on
         with contextlib.suppress(OSError):
             return fcntl.fcntl(_STANDARD_ERROR, fcntl.F_DUPFD_CLOEXEC, first)
     return None

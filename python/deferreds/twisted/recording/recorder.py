@@ -2,12 +2,14 @@
 
 from __future__ import annotations
 
+import sys
 from typing import Any, Callable, List, Mapping, NamedTuple, Optional, Sequence, Tuple, Union
 
 from twisted.internet.defer import Deferred, FirstError
 from twisted.python.failure import Failure
 
 from ..classes import Classes
+from ..instruments.deferreds import runs_callbacks
 from ..profile import Entry
 from ..telling import (
     KINDS,
@@ -23,10 +25,11 @@ from ..telling import (
     is_deferred,
     know_attributes,
     switching,
+    take_off,
     watched,
 )
 from ..texts import NULL, Outcome, Text, compact, weight_of
-from .bodies import SHALLOW, Body, Run, Steps, Unsayable
+from .bodies import SHALLOW, Body, Run, Steps, Unsayable, forget_bodies
 from .hiding import SECRETS, Hiding
 from .inside import CALLED, FINALIZED, KIND_OF_ACTION, MEDDLED, Inside, entry, is_entered, is_uncalled, worked_on
 from .places import Spots, place, spot
@@ -110,6 +113,9 @@ class Recorder(Observer):
     preceding = preceding_parts = 0
     #: what watches where the text of an object is asked for, once one was
     _aside: Optional[Aside] = None
+    #: after how many parts of lines `look` is called between two events, and that
+    looks_at = sys.maxsize
+    look: Callable[[], None]
 
     def __init__(self, kinds: frozenset[str] = KINDS, redact: str = SECRETS) -> None:
         classes = Classes()
@@ -138,6 +144,29 @@ class Recorder(Observer):
     def place(self) -> str:
         """The place in the program."""
         return place()
+
+    def is_between_events(self) -> bool:
+        """Whether the program itself runs, and is in none of Twisted's code."""
+        is_outside = self.frame is self.top and not self.acting and not self.top.expected
+        return is_outside and watched.observer is self and not runs_callbacks()
+
+    def stop(self) -> None:
+        """Records nothing any more, and keeps nothing of what was recorded: the program goes on as without a recorder."""
+        watched.observer = None
+        take_off(self.lineage)
+        self.forget()
+
+    def forget(self) -> None:
+        """Keeps nothing of what was recorded: Deferreds from then still refer to this recorder."""
+        for action in self.events:
+            forget_bodies(action)
+        for record in self.records:
+            record.made_in = record.side = record.body = None
+        everything: List[List[Any]] = [self.events, self.parts, self.records, self.failed, self.quirks, self.begins]
+        for kept in everything:
+            kept.clear()
+        self.spots.forget()
+        self.clock = self.pace = self.cooperator = None
 
     def happening(self) -> Optional[Action]:
         """The event that happens, or has happened last."""
@@ -246,6 +275,8 @@ class Recorder(Observer):
             self.acting = False
             if run is self.top:
                 self.ended = len(self.events)
+                if len(parts) > self.looks_at:
+                    self.look()
 
     def begin_plain(self, action: Action, inside: int) -> Any:
         """The program runs an action in which none of its code is called, while it runs no other. Gives what ends it.
@@ -281,6 +312,8 @@ class Recorder(Observer):
         self.acting = False
         if self.frame is self.top:
             self.ended = len(self.events)
+            if len(self.parts) > self.looks_at:
+                self.look()
 
     @switching
     def make(self, deferred: Any) -> None:
