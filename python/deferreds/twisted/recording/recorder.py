@@ -166,7 +166,7 @@ class Recorder(Observer):
         for kept in everything:
             kept.clear()
         self.spots.forget()
-        self.clock = self.pace = self.cooperator = None
+        self._clock = self.pace = self.cooperator = None
 
     def happening(self) -> Optional[Action]:
         """The event that happens, or has happened last."""
