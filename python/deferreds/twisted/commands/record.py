@@ -7,7 +7,7 @@ is a file, or the name of a Python script on the PATH. The program runs as it is
 NAME.json is the script. NAME.journal is the journal and the outcomes by real Twisted. NAME.places.json says where in the program
 it happened. `--view` also writes NAME.html, a page of the run. NAME.recording lists these files. Without -o, NAME is the name of
 PROGRAM or MODULE, in the current folder. A file of another origin is only overwritten with -f. What no script can express is refused,
-with the reason and the place in the program; then NAME.json isn't written, and all other files are.
+with the reason and the place in the program; then NAME.json is of the events before that, and NAME.whole.journal is the whole journal.
 
 The run is also kept if the program ends by Ctrl-C, by a signal that it doesn't handle, or by os._exit. At SIGUSR1 the run so far is
 written, and the program goes on. A forked child writes its own files, NAME.PID.json and so on. If a run is too long for a script, or
