@@ -332,10 +332,18 @@ class Statuses(RecordingCase):
         self.assertIn("by_hand.json", self.files())
         program.write_text("from twisted.internet import defer\ndefer.succeed(1).result = 2\n", encoding="utf-8")
         ended = self.record("--view", "by_hand.py")
-        files = ["by_hand.html", "by_hand.journal", "by_hand.places.json", "by_hand.py", "by_hand.recording"]
-        self.assertEqual((ended.status, self.files()), (65, files), ended.said)
-        self.assertIn("There is no script", ended.said)
+        self.assertEqual((ended.status, "by_hand.json" in self.files()), (65, True), ended.said)
+        self.assertIn("the script is of the first 2 of 2 events, since it can't say what follows: the result of a Def", ended.said)
         self.assertIn("the result of a Deferred is set by hand", (self.folder / "by_hand.html").read_text(encoding="utf-8"))
+        self.assertEqual(self.facts("by_hand")["refused"], "the result of a Deferred is set by hand")
+        self.assert_goes_together("by_hand")
+
+    def test_what_a_script_cant_say_at_once(self) -> None:
+        program = self.folder / "at_once.py"
+        program.write_text("from twisted.internet import reactor\nreactor.callLater(float('inf'), print).cancel()\n", encoding="utf-8")
+        ended = self.record("--view", "at_once.py")
+        self.assertEqual((ended.status, self.files()), (65, ["at_once.html", "at_once.journal", "at_once.py", "at_once.recording"]), ended.said)
+        self.assertIn("There is no script", ended.said)
 
     def test_of_a_test_that_has_failed(self) -> None:
         self.copied("failing_test.py", "failing.py")

@@ -136,16 +136,17 @@ class Failing(FilesCase):
 
     def test_the_message_has_the_step_and_why(self) -> None:
         steps = {
-            "open_file": "run.json can't be opened: Too many open files",
-            "write": "run.json can't be written: No space left on device",
-            "fsync": "run.json can't be synced: Input/output error",
-            "replace": "run.recording can't get its name, and is in .run.recording.[0-9]+.tmp: Permission denied",
+            ("open_file", 1): "run.recording can't be read: Too many open files",
+            ("open_file", 2): "run.json can't be opened: Too many open files",
+            ("write", 1): "run.json can't be written: No space left on device",
+            ("fsync", 1): "run.json can't be synced: Input/output error",
+            ("replace", 1): "run.recording can't get its name, and is in .run.recording.[0-9]+.tmp: Permission denied",
         }
-        for name, message in steps.items():
-            with self.subTest(name=name):
+        for (name, number), message in steps.items():
+            with self.subTest(name=name, number=number):
                 self.begin(True)
-                # (the list is read before anything is written, and the file's own digest is taken)
-                with Faulty(1, _raising(_CALLS[name])).in_place(name), mock.patch.object(Place, "_of_others", return_value=[]):
+                # (the list is read once more before anything is written)
+                with Faulty(number, _raising(_CALLS[name])).in_place(name), mock.patch.object(Place, "_of_others", return_value=[]):
                     written = self.place().write(_NEW, {})
                 self.assertRegex(written.failures[0], message)
 
@@ -153,7 +154,8 @@ class Failing(FilesCase):
         self.begin(True)
         with Faulty(1, _raising(errno.ENOSPC)).in_place("write"):
             written = self.place().write(_NEW, {})
-        self.assertEqual((written.is_any, written.name), (True, f"{tempfile.gettempdir()}/run.{os.getpid()}"))
+        self.assertTrue(written.is_any)
+        self.assertRegex(written.name, f"^{tempfile.gettempdir()}/deferreds\\.[^/]+/run\\.{os.getpid()}$")
         self.assertEqual(Path(f"{written.name}.json").read_text(encoding="utf-8"), _NEW[".json"])
         self.assertEqual(self.found(), _OLD)
 

@@ -71,10 +71,12 @@ class RealReactor(unittest.TestCase):
         return recording
 
     def refused(self, name: str) -> str:
-        """It is refused, and has a journal alone: why."""
+        """It is refused, and has a journal, and the script of its beginning if there is one: why."""
         recording = Recording(name)
-        self.assertEqual((recording.status, recording.script), (65, ""), recording.said)
+        self.assertEqual(recording.status, 65, recording.said)
         self.assertTrue(recording.journal, recording.said)
+        if recording.script:
+            self.assertEqual(ours().answer(recording.script).output, recording.journal)
         return recording.said
 
     def assert_in_order(self, lines: List[str], *expected: str) -> None:

@@ -354,7 +354,10 @@ class Refused(unittest.TestCase):
 
     def assert_refused(self, program: Callable[[], object], reason: str) -> None:
         """It is refused with this reason, and with the place in this file."""
-        problems = recorded(program).problems
+        said = recorded(program)
+        problems = said.problems
+        if said.script is not None:
+            self.assertEqual(run(said.text.encode()).output, said.output, "the script of the beginning")
         self.assertIn(reason, [problem.reason for problem in problems])
         places = [problem.place for problem in problems if problem.place]
         self.assertTrue(all("test_recording.py:" in place for place in places), places)
@@ -407,7 +410,7 @@ class Refused(unittest.TestCase):
             clock.advance(1)
 
         said = recorded(program)
-        self.assertIsNone(said.script)
+        self.assertTrue(said.is_cut)
         self.assertEqual(said.problems[0].kind, "loop")
 
     def test_what_earlier_twisteds_refuse(self) -> None:

@@ -264,6 +264,8 @@ class Action(List[Any]):
     raises: Any = None
     #: before which part of lines it begins, where it isn't among these itself
     at: Optional[int] = None
+    #: of what an inline body awaits: how many events had begun when that came
+    came: Optional[int] = None
 
 
 class Advance(Action):

@@ -8,7 +8,7 @@ NAME.json is the script. NAME.journal is the journal and the outcomes by real Tw
 it happened. `--view` also writes NAME.html, a page of the run. NAME.recording lists these files. Without -o, NAME is the name of
 PROGRAM or MODULE, in the current folder; `-o FOLDER/` names another folder. A file of another origin is only overwritten with -f.
 Only their owner can read the files. What no script can express is refused, with the reason and the place in the program; then
-NAME.json isn't written, and all other files are.
+NAME.json is of the events before that, and NAME.whole.journal is the whole journal.
 
 The run is also kept if the program ends by Ctrl-C, by a signal that it doesn't handle, or by os._exit. At SIGUSR1 the run so far is
 written, and the program goes on. A forked child writes its own files, NAME.PID.json and so on. If a run is too long for a script, or

@@ -29,6 +29,10 @@ _MOST_LATE = 50 * MILLISECOND
 _LEAST_EARLY = 10
 
 
+#: how many shorter beginnings of a run are tried, before half of one is
+_MOST_TRIED = 10
+
+
 class Waiting(NamedTuple):
     """Something that waits for the reactor's time: when it is recorded as due, and after what delay."""
 
@@ -277,6 +281,36 @@ class Pace:
             settle(self._steps)
         except Conflict as why:
             conflict = why
+        self._set_times()
+        return conflict
+
+    def settle_beginning(self, conflict: Conflict) -> Optional[Advance]:
+        """Sets the times of a beginning of the run that has some, up to about where this is in the way. Gives the advance after it, if
+        there is such a beginning. What comes after it has the reactor's times."""
+        place = self._settled_steps(conflict.steps)
+        if place == 0:
+            return None
+        last = self._steps[place - 1].time
+        for step in self._steps[place:]:
+            step.advances, step.time = True, max(last, step.real)
+            step.by, last = step.time - last, step.time
+        self._set_times()
+        return self._advances.get(self._steps[place])
+
+    def _settled_steps(self, most: int) -> int:
+        """Settles the first steps, so many at most, and gives how many."""
+        place, tried = most, 0
+        while place > 0:
+            try:
+                settle(self._steps[:place])
+                break
+            except Conflict as why:
+                tried += 1
+                place = min(why.steps, place - 1 if tried < _MOST_TRIED else place // 2)
+        return place
+
+    def _set_times(self) -> None:
+        """Sets the times of all lines and actions to those of the steps."""
         for step, advance in self._advances.items():
             advance.is_told = step.advances
             advance.to.seconds, advance.by.seconds = seconds_of(step.time), seconds_of(step.by)
@@ -287,7 +321,6 @@ class Pace:
             action[0] = "delayCall" if is_delayed else "resetCall"
             if is_delayed:
                 delay.seconds = seconds_of(entry.due - before.due)
-        return conflict
 
 
 def _due_turn(entry: Entry, loop: Loop) -> int:

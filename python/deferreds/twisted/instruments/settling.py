@@ -39,6 +39,8 @@ class Conflict(Exception):
         self.reason = reason
         self.place = place
         self.kind = kind
+        #: how many steps may have times
+        self.steps = 0
 
 
 class Manner(NamedTuple):
@@ -219,6 +221,7 @@ def settle(steps: Sequence[Step]) -> None:
             moved = _settled(steps, manner)
         except Conflict as why:
             conflict = conflict or why
+            conflict.steps = max(conflict.steps, why.steps)
             continue
         if not moved or not ticks:
             return
@@ -242,10 +245,16 @@ def _manners_for(ticks: Set[Tick]) -> Sequence[Manner]:
 def _settled(steps: Sequence[Step], manner: Manner) -> int:
     """Chooses all times in this manner: how many calls are recorded as due at another time than was asked for."""
     settling = _Settling(steps, manner)
-    for step in steps:
-        settling.take(step)
-    settling.finish()
-    _check(steps)
+    place = 0
+    try:
+        for place, step in enumerate(steps):
+            settling.take(step)
+        settling.finish()
+        for place, _ in enumerate(_checked(steps)):
+            pass
+    except Conflict as why:
+        why.steps = place
+        raise
     return settling.moved
 
 
@@ -601,8 +610,8 @@ def _conflict(entry: Entry, reason: str) -> Conflict:
     return Conflict(reason, place, "loop" if entry.tick is None else "cooperator")
 
 
-def _check(steps: Sequence[Step]) -> None:
-    """Runs the steps on a clock like that of the language. Raises Conflict, where that runs anything else."""
+def _checked(steps: Sequence[Step]) -> Iterator[Step]:
+    """Runs the steps on a clock like that of the language, each before it is given. Raises Conflict, where that runs anything else."""
     seen, fresh = _Waiting(), _Waiting()
     now = 0
     for step in steps:
@@ -631,3 +640,4 @@ def _check(steps: Sequence[Step]) -> None:
         first = seen.first()
         if step.closed and first is not None and first.due <= now:
             raise _conflict(first, "it is due, and something else happens")
+        yield step

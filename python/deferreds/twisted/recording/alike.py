@@ -9,7 +9,7 @@ from fractions import Fraction
 from typing import Any, Callable, List, Optional, Sequence, Tuple, Union
 
 from ..telling import Action, Record, Thing, Time
-from .bodies import Body, Run, Steps, Unsayable
+from .bodies import Body, Done, Run, Steps, Unsayable
 
 _FINEST = 10**9
 
@@ -38,9 +38,10 @@ def first_body(body: Any) -> Any:
 class Alike:
     """Compares runs. However deep bodies lie in each other, this takes no room on the stack."""
 
-    def __init__(self, runs_of: Callable[[Body], Sequence[Run]]) -> None:
-        """`runs_of`: the runs of a body that count."""
+    def __init__(self, runs_of: Callable[[Body], Sequence[Run]], done_in: Callable[[Run], Done]) -> None:
+        """`runs_of`: the runs of a body that count, and `done_in` what was done in such a run, of that which counts."""
         self._runs_of = runs_of
+        self._done_in = done_in
 
     def are_same(self, first: Run, other: Run) -> bool:
         """Whether two runs are the same. If so, what the other one has is known as what the first one has in its place."""
@@ -65,11 +66,12 @@ class Alike:
         return [] if _is_same(one, two) else None
 
     def _within_runs(self, one: Run, two: Run) -> Optional[_Pairs]:
-        if len(one.actions) != len(two.actions):
+        first, other = self._done_in(one), self._done_in(two)
+        if len(first.actions) != len(other.actions):
             return None
-        if not all(map(_are_caught_alike, one.actions, two.actions)):
+        if not all(map(_are_caught_alike, first.actions, other.actions)):
             return None
-        return [(one.end, two.end), *zip(one.actions, two.actions)]
+        return [(first.end, other.end), *zip(first.actions, other.actions)]
 
     def _within_bodies(self, one: Body, two: Body) -> _Pairs:
         if one is two:

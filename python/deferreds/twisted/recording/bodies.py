@@ -43,6 +43,13 @@ class Steps:
         self.bodies: List[Body] = []
 
 
+class Done(NamedTuple):
+    """What was done in a run: the actions, in order, and how it ended."""
+
+    actions: Sequence[Action]
+    end: Any
+
+
 class Run(Frame):
     """A run of a body: the actions that it ran, and how it ended."""
 
@@ -63,6 +70,18 @@ class Run(Frame):
     def actions(self) -> Sequence[Action]:
         """The actions, in order."""
         return self.noted or ()
+
+    @property
+    def done(self) -> Done:
+        """All that was done in it."""
+        return Done(self.actions, self.end)
+
+    def until(self, events: int) -> Done:
+        """What was done in it until so many events had ended. Only an inline body runs in several events: it goes on after an `await`."""
+        for place, action in enumerate(self.actions):
+            if action.came is not None and action.came > events:
+                return Done(self.actions[: place + 1], None)
+        return self.done
 
     def forget(self) -> None:
         """Keeps no action."""

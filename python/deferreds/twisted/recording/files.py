@@ -3,6 +3,7 @@
 from __future__ import annotations
 
 import contextlib
+import errno
 import json
 import os
 import tempfile
@@ -20,6 +21,9 @@ _WRITER = "deferreds record"
 
 #: the list names some files and says a few facts
 _MOST_LIST = 1 << 20
+
+#: what is said of a list that isn't there, or is no plain file
+_NO_LIST = (errno.ENOENT, errno.ENOTDIR, errno.ELOOP, errno.EINVAL, errno.ENXIO, errno.EISDIR)
 
 #: before the name of a folder of this process in that for temporary files
 _ROOM = "deferreds."
@@ -127,8 +131,11 @@ class Place:
         """Those of these files that are there and aren't the recording's own."""
         if self._overwrites:
             return []
-        digests = self._listed()
         there = [ending for ending in (*endings, _LIST) if os.path.lexists(self._path(ending))]
+        try:
+            digests = self._listed()
+        except Failed:
+            return there
         if not digests:
             return there
         return [ending for ending in there if ending != _LIST and digests.get(self._path(ending).name) != digest_of(self._path(ending))]
@@ -138,11 +145,19 @@ class Place:
         return self._read_list().digests
 
     def _read_list(self) -> _Listed:
+        """The list that is there; an empty one if it isn't there, or no recording wrote it. Raises Failed if it can't be read."""
+        path = self._path(_LIST)
         try:
-            told = json.loads(read_plain(self._path(_LIST), _MOST_LIST))
+            text = read_plain(path, _MOST_LIST)
+        except OSError as error:
+            if error.errno in _NO_LIST:
+                return _Listed({}, {}, 0)
+            raise Failed(path.name, "can't be read", error) from None
+        try:
+            told = json.loads(text)
             listed = _Listed(dict(told["files"]), dict(told.get("replaced", {})), int(told.get("process", 0)))
             is_ours = told["written by"] == _WRITER
-        except (OSError, ValueError, KeyError, TypeError, RecursionError, OverflowError):
+        except (ValueError, KeyError, TypeError, RecursionError, OverflowError):
             return _Listed({}, {}, 0)
         are_own = all(map(self._is_own_name, (*listed.digests, *listed.replaced)))
         return listed if is_ours and are_own else _Listed({}, {}, 0)
@@ -153,16 +168,20 @@ class Place:
 
     def _tidy(self) -> None:
         """Ends what processes have begun that were killed while they wrote: files get their names, and others are removed."""
-        folder, listed = self.name.parent, self._read_list()
+        folder = self.name.parent
+        try:
+            listed = self._read_list()
+        except Failed:
+            return
         if listed.process:
             place_left(folder, listed.process, listed.digests)
             self._remove(listed.replaced, listed.digests)
         remove_left(folder, [self._path(ending).name for ending in (*ENDINGS, _LIST)])
 
     def _write(self, files: Mapping[str, str], facts: Mapping[str, Any]) -> Written:
-        replaced = self._listed()
         halves = Halves(self.name.parent)
         try:
+            replaced = self._listed()
             digests, failures = self._write_halves(halves, files)
             listed = {"written by": _WRITER, "process": os.getpid(), **facts, "files": digests, "replaced": replaced}
             halves.write(self._path(_LIST).name, (json.dumps(listed, indent=1) + "\n").encode())

@@ -68,11 +68,13 @@ KIND_OF_ACTION: Dict[str, str] = {
 
 
 class Inside(NamedTuple):
-    """Where the program acted last inside an action: how many parts of lines were logged then, the place, and whether it may."""
+    """Where the program acted last inside an action: how many parts of lines were logged then, the place, and whether it may; and how
+    many events had ended."""
 
     told: int
     place: str
     is_uncalled: bool
+    ended: int
 
 
 class _Files(Dict[str, bool]):

@@ -4,7 +4,7 @@ from __future__ import annotations
 
 import enum
 import platform
-from typing import Any, Dict, Optional
+from typing import Any, Dict, Optional, Sequence
 
 import twisted
 
@@ -50,10 +50,9 @@ class Keeping:
 
     def keep(self, said: Said, how: str, earlier: int = 0) -> Status:
         """Keeps a run that ended so, and before which so many events were, which aren't kept. What can't be kept is reported."""
-        refusals = [problem for problem in said.problems if problem not in said.too_large]
-        if refusals or said.script is None:
-            self._refuse(refusals, said.hindrance)
-            return self._write_refused(said, how, earlier, refusals)
+        if said.refusals or said.script is None:
+            self._refuse(said.refusals, said.hindrance)
+            return self._write(said, how, earlier) if said.is_cut else self._write_refused(said, how, earlier)
         if said.is_empty:
             self._tell_nothing()
             return Status.NOTHING
@@ -66,9 +65,9 @@ class Keeping:
         if stays:
             self.messages.say(stays)
 
-    def _write_refused(self, said: Said, how: str, earlier: int, refusals: "list[Problem]") -> Status:
+    def _write_refused(self, said: Said, how: str, earlier: int) -> Status:
         """Writes the journal, and if it is wanted the page, of a run that a script can't say."""
-        why = "; ".join(dict.fromkeys(problem.reason for problem in refusals)) or "it has no words for it"
+        why = _reasons(said.refusals) or "it has no words for it"
         files: Dict[str, str] = {".journal": said.whole_output}
         counts = self._add_places_and_page(files, said, said.places, why)
         written = self._write_files(files, self._facts(said, how, earlier, f"no script: {why}"), counts)
@@ -86,8 +85,8 @@ class Keeping:
         else:
             self.messages.say("nothing was recorded: the program has used no Deferreds")
 
-    def _refuse(self, refusals: "list[Problem]", hindrance: str) -> None:
-        for problem in dict.fromkeys(refusals):
+    def _refuse(self, refusals: Sequence[Problem], hindrance: str) -> None:
+        for problem in dict.fromkeys(problem.said for problem in refusals):
             at = f", at {problem.place}" if problem.place else ""
             plainly = f" (--plain {problem.kind} tells it as what it is made of)" if problem.kind else ""
             self.messages.say(f"a script can't say this: {problem.reason}{at}{plainly}")
@@ -108,7 +107,7 @@ class Keeping:
         if not written.is_any:
             return Status.NOT_WRITTEN
         self._tell(said, written.name, agreed)
-        if agreed.is_wrong:
+        if agreed.is_wrong or said.is_cut:
             return Status.REFUSED
         return Status.NOT_WRITTEN if written.failures else Status.RECORDED
 
@@ -145,6 +144,7 @@ class Keeping:
             "events": len(said.begins),
             "events of the script": said.events,
             "compared": compared,
+            **({"refused": _reasons(said.refusals)} if said.is_cut else {}),
             **({"tick": said.tick} if said.tick else {}),
         }
 
@@ -164,11 +164,19 @@ class Keeping:
         if said.is_whole:
             self.messages.say(f"{name}.json and {name}.journal: {lines}, {deferreds}; {agreed.text}")
             return
-        self.messages.say(f"{name}.whole.journal: {lines}, {deferreds}")
+        lacks = ". It may lack what is refused" if said.is_cut else ""
+        self.messages.say(f"{name}.whole.journal: {lines}, {deferreds}{lacks}")
         self.messages.say(f"{name}.json and {name}.journal: {_beginning(said)}; {agreed.text}")
+
+
+def _reasons(problems: Sequence[Problem]) -> str:
+    """Why there is no script, or none of the whole run; nothing, where there are no problems."""
+    return "; ".join(dict.fromkeys(problem.reason for problem in problems))
 
 
 def _beginning(said: Said) -> str:
     """Which events the script has, where it isn't of the whole run, and why."""
-    why = "; ".join(problem.reason for problem in said.too_large) or "an event was under way at the end"
+    why = _reasons(said.too_large) or "an event was under way at the end"
+    if said.is_cut:
+        why = f"it can't say what follows: {_reasons(said.refusals)}"
     return f"the script is of the first {said.events} of {several(len(said.begins), 'event', 'events')}, since {why}"

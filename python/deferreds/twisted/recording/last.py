@@ -21,7 +21,7 @@ from ..telling import Action, Observer, Record
 from ..texts import NULL, Outcome
 from .bodies import Body, Run, Unsayable, forget_bodies
 from .places import place
-from .recorder import Recorder
+from .recorder import Problem, Recorder
 from .saying import Said
 
 #: how many Deferreds that stood and were never met are recorded at most
@@ -75,7 +75,8 @@ class LastRecorder(Recorder):
         if before is not None:
             self.earlier = before.earlier + len(before.events)
             self.texts = before.texts
-            self.problems = [problem for problem in dict.fromkeys(before.problems) if problem.kind != FURTHER]
+            problems = dict.fromkeys(problem.said for problem in before.problems)
+            self.problems = [problem for problem in problems if problem.kind != FURTHER]
             self.texts.forget_kept()
             self.texts.ask_by(self.ask)
 
@@ -282,7 +283,13 @@ class LastRecorder(Recorder):
         whole.parts = [*self._stood_parts, *self.parts]
         whole.records = self._stood_records + self.records
         whole.quirks = [(at + shift, entry) for at, entry in self.quirks]
+        whole.problems = [_later(problem, whole.preceding) for problem in self.problems]
         return Said(whole, None if ended is None else ended + whole.preceding)
+
+
+def _later(problem: Problem, events: int) -> Problem:
+    """A problem, before which so many more events are recorded."""
+    return problem if problem.ended is None else problem._replace(ended=problem.ended + events)
 
 
 def _is_odd(deferred: Any) -> bool:

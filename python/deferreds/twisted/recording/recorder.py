@@ -53,6 +53,13 @@ class Problem(NamedTuple):
     reason: str
     place: str
     kind: Optional[str]
+    #: how many events had ended before it, where a script can be of these
+    ended: Optional[int] = None
+
+    @property
+    def said(self) -> "Problem":
+        """The same, of any event."""
+        return self._replace(ended=None)
 
 
 #: how many times as many frames a program may have on Python's stack where it is recorded
@@ -139,7 +146,7 @@ class Recorder(Observer):
 
     def problem(self, reason: str, kind: Optional[str] = None) -> None:
         """Notes what a script can't say."""
-        self.problems.append(Problem(reason, place(), kind))
+        self.problems.append(Problem(reason, place(), kind, self.ended))
 
     def place(self) -> str:
         """The place in the program."""
@@ -396,7 +403,7 @@ class Recorder(Observer):
             frame.expected, frame.anonymous, frame.passing, self._told, self.forwarded, self.turn, self.maker = kept
             if uncalled and any(part is one for part in self.parts[before:] if part is not None for one in busy):
                 self.problem(MEDDLED)
-            self._inside = Inside(len(self.parts), place(), uncalled)
+            self._inside = Inside(len(self.parts), place(), uncalled, ended)
 
     def _known_as(self, thing: object) -> object:
         """What lines name an object by, if any do."""
@@ -410,7 +417,7 @@ class Recorder(Observer):
     def _refuse_unless_last(self, inside: Inside, raised: bool) -> None:
         """Refuses what was done inside Twisted's code, where that has gone on to tell something after it."""
         if inside.is_uncalled and (raised or inside.told < len(self.parts)):
-            self.problems.append(Problem(FINALIZED, inside.place, None))
+            self.problems.append(Problem(FINALIZED, inside.place, None, inside.ended))
 
     def _kind_performed(self) -> Optional[str]:
         """The kind of objects to which what Twisted runs belongs."""
@@ -613,6 +620,7 @@ class Recorder(Observer):
 
     def end_await(self, awaited: Any, value: object, outcome: Outcome) -> None:
         """What it awaited has come, and is thrown where it is a failure."""
+        awaited.came = len(self.events)
         if isinstance(value, Failure):
             awaited.raised = self.texts.failure(self.texts.error_of(value)).text
 

@@ -6,7 +6,7 @@ A run may be longer than a script can be, or end in the midst of an event. Then 
 from __future__ import annotations
 
 import math
-from bisect import bisect_left
+from bisect import bisect_left, bisect_right
 from fractions import Fraction
 from itertools import accumulate, compress, count
 from typing import Any, Dict, Iterator, List, Optional, Sequence, Set, Tuple, Union
@@ -21,7 +21,7 @@ from ..script import nodes
 from ..telling import Action, Advance, Begun, Ended, Failed, Part, Record, Thing, Time
 from ..texts import Outcome, Text, compact
 from .alike import Alike, exact, first_body, first_record
-from .bodies import Body, Run, Steps, Unsayable, bodies_of, deepest, in_words
+from .bodies import Body, Done, Run, Steps, Unsayable, bodies_of, deepest, in_words
 from .declaring import MOST_OF_EVENT, Declared
 from .outcomes import outcomes_of
 from .places import FreeNames, name_of_spot
@@ -44,6 +44,10 @@ _NAMES_COOPERATOR = {"cooperateIn": 2, "unitsIn": 1, "stopCooperator": 1}
 _BYTES_OF_NODE = 2
 
 
+#: how many shorter scripts are tried before the event that can't be said is left out with all that follows it
+_MOST_TRIED = 20
+
+
 class CannotSay(Exception):
     """The language has no words for it."""
 
@@ -64,6 +68,8 @@ class Said:
         self._counts: Optional[Sequence[int]] = None
         #: those of the problems that are of the size of the whole run alone: the script is of its beginning
         self.too_large: List[Problem] = []
+        #: whether the script is of the beginning of the run, since it can't say what comes next
+        self.is_cut = False
         self._ended = len(recorder.events) if ended is None else min(ended, len(recorder.events))
         #: what number of steps the ticks of each Cooperator have at first, by its number of Python, if a script can say what they have
         self._tick_units: Dict[int, int] = {}
@@ -77,9 +83,11 @@ class Said:
         self._note_problems(conflict)
         #: how many events the script has
         self.events = self._count_events()
-        self._alike = Alike(self._runs)
+        self._alike = Alike(self._runs, self._done)
         #: the bodies that the script declares, and those of the event that is being said, by their numbers of Python
         self._declared = Declared()
+        #: the place of the event that is being said
+        self._saying: Optional[int] = None
         self._said: Dict[int, Any] = {}
         #: by the numbers of Python for actions that add a pair which only fires another Deferred, what fires it
         self._chains: Dict[int, Action] = {}
@@ -90,6 +98,8 @@ class Said:
         self._number()
         self._find_scale()
         self.script = self._script()
+        if self.refusals:
+            self.script = self._script_before(self.refusals)
         while len(self._declared.pairs) > grammar.MOST_BODIES and self.script is not None:
             self.script = self._script_of_fewer()
         if self._declared.pairs:
@@ -114,7 +124,12 @@ class Said:
     @property
     def is_whole(self) -> bool:
         """Whether the script is of the whole run."""
-        return self.events == len(self.actions) and not self.too_large
+        return self.events == len(self.actions) and not self.too_large and not self.is_cut
+
+    @property
+    def refusals(self) -> List[Problem]:
+        """What a script can't say of the run, however short that is. Unless `is_cut`, there is no script for it."""
+        return [problem for problem in self.problems if problem not in self.too_large]
 
     @property
     def elsewhere(self) -> int:
@@ -154,8 +169,8 @@ class Said:
         """Where in the program's own files Deferreds were made and actions ran, as JSON; None where that isn't known."""
         return whereabouts_of(self._recorder, self.records, self.script, self.acted)
 
-    def _problem(self, reason: str, kind: Optional[str] = None, place: str = "") -> None:
-        self.problems.append(Problem(reason, place, kind))
+    def _problem(self, reason: str, kind: Optional[str] = None, place: str = "", ended: Optional[int] = None) -> None:
+        self.problems.append(Problem(reason, place, kind, ended))
 
     # numbers and times
 
@@ -163,12 +178,27 @@ class Said:
         """Has the times of a real reactor be set, and leaves out the advances that aren't told. Gives why there are no times, if so."""
         recorder = self._recorder
         conflict: Optional[Conflict] = None if recorder.pace is None else recorder.pace.settle()
+        self._leave_out_advances()
+        return conflict
+
+    def _leave_out_advances(self) -> None:
+        """Leaves out the advances that aren't told."""
+        recorder = self._recorder
         told = self._told = [not isinstance(action, Advance) or action.is_told for action in recorder.events]
         #: the events of the whole run that are recorded, before which parts of lines each begins, and its place among the recorder's
         self.actions = list(compress(recorder.events, told))
         self._begins = list(compress(recorder.begins, told))
         self._places = list(compress(count(), told))
-        return conflict
+
+    def _settle_beginning(self, conflict: Conflict) -> Optional[int]:
+        """Has the times be set of the beginning of a run whose order no times give. Gives how many events have ended then, if there are any."""
+        after = self._recorder.pace.settle_beginning(conflict)
+        if after is None:
+            return None
+        self._leave_out_advances()
+        self._change_units()
+        place = next(place for place, event in enumerate(self._recorder.events) if event is after)
+        return place if self._counts is None else bisect_right(self._counts, place) - 1
 
     def _leave_unnamed(self, conflict: Optional[Conflict]) -> bool:
         """Leaves out further Cooperators, if no script has them by name. Gives whether it has."""
@@ -198,7 +228,7 @@ class Said:
         for problem in self._recorder.problems:
             self.problems.append(problem._replace(kind="cooperator") if problem.kind == FURTHER else problem)
         if conflict is not None:
-            self._problem(conflict.reason, conflict.kind, conflict.place)
+            self._problem(conflict.reason, conflict.kind, conflict.place, self._settle_beginning(conflict))
 
     def _counted(self, events: int) -> int:
         """How many events are recorded, after so many of those by which runs count."""
@@ -348,13 +378,14 @@ class Said:
     def _script(self) -> Optional[Dict[str, Any]]:
         script: Dict[str, Any] = {"version": 1, "limit": _MOST_LIMIT}
         try:
-            inner = [self._find_bodies(action) for action in self.actions[: self.events]]
-            events = [self._event(action, bodies) for action, bodies in zip(self.actions, inner)]
+            inner = [self._find_bodies(action) for action in self._each_event()]
+            events = [self._event(action, bodies) for action, bodies in zip(self._each_event(), inner)]
+            self._saying = None
             self._say_cooperators(script)
         except CannotSay:
             return None
         if self._recorder.pools:
-            script["pools"] = [[pool.thing.name, pool.workers] for pool in self._recorder.pools]
+            script["pools"] = [[pool.thing.name, pool.workers] for pool in self._recorder.pools[: grammar.MOST_POOLS]]
         if self._recorder.classes.declared:
             script["classes"] = [list(pair) for pair in self._recorder.classes.declared]
         if self._declared.pairs:
@@ -362,18 +393,52 @@ class Said:
         script["events"] = events
         return script
 
-    def _script_of_fewer(self) -> Optional[Dict[str, Any]]:
-        """The script of the beginning that needs no more names of bodies than a script may have."""
-        if not self.too_large:
-            self.too_large.append(Problem("the script needs more names of bodies than one may have", "", None))
-            self.problems += self.too_large
-        self._ended = self._declared.most_ended() + self._recorder.preceding
+    def _each_event(self) -> Iterator[Action]:
+        """The events of the script, each as long as it is said."""
+        for place, action in enumerate(self.actions[: self.events]):
+            self._saying = place
+            yield action
+
+    def _ended_before(self, place: int) -> int:
+        """How many events have ended before one, of those by which runs count."""
+        recorded = self._places[place]
+        return recorded if self._counts is None else bisect_right(self._counts, recorded) - 1
+
+    def _script_before(self, refusals: Sequence[Problem]) -> Optional[Dict[str, Any]]:
+        """The longest script of the beginning in which nothing is refused, if there is one."""
+        for tried in count():
+            ends = [problem.ended for problem in refusals if problem.ended is not None]
+            if len(ends) < len(refusals):
+                return None
+            ended = min(*ends, self._ended)
+            if tried > _MOST_TRIED and self._saying is not None:
+                ended = min(ended, self._ended_before(self._saying))
+            before = len(self.problems)
+            script = self._script_until(ended)
+            if self.events == 0:
+                return None
+            if script is not None:
+                self.is_cut = True
+                return script
+            refusals = self.problems[before:]
+        return None
+
+    def _script_until(self, ended: int) -> Optional[Dict[str, Any]]:
+        """The script of the beginning in which so many events have ended."""
+        self._ended = ended
         self.events = self._count_events()
         self._declared.forget()
         self.acted.clear()
         self._chains.clear()
         self._used.clear()
         return self._script()
+
+    def _script_of_fewer(self) -> Optional[Dict[str, Any]]:
+        """The script of the beginning that needs no more names of bodies than a script may have."""
+        if not self.too_large:
+            self.too_large.append(Problem("the script needs more names of bodies than one may have", "", None))
+            self.problems += self.too_large
+        return self._script_until(self._declared.most_ended() + self._recorder.preceding)
 
     def _finish(self, script: Dict[str, Any]) -> None:
         """Sets the limit and the version of a script, and says it as JSON."""
@@ -402,8 +467,11 @@ class Said:
         large = [_LARGE_SINCE] if script["limit"] > _SMALL_LIMIT else []
         return max([*keys, *failures, *large, *(grammar.ACTIONS_SINCE.get(form, 1) for form in forms)])
 
-    def _cannot(self, reason: str, kind: Optional[str] = None, place: str = "") -> CannotSay:
-        self._problem(reason, kind, place)
+    def _cannot(self, reason: str, kind: Optional[str] = None, place: str = "", ended: Optional[int] = None) -> CannotSay:
+        """The event that is said, or what happens after so many have ended, can't be said."""
+        if ended is None and self._saying is not None:
+            ended = self._ended_before(self._saying)
+        self._problem(reason, kind, place, ended)
         return CannotSay(reason)
 
     def _find_bodies(self, event: Action) -> Sequence[Body]:
@@ -422,7 +490,7 @@ class Said:
                 found.append(body)
                 runs = self._compared(body, action)
                 if runs:
-                    left += reversed(runs[0].actions)
+                    left += reversed(self._done(runs[0]).actions)
         return found
 
     def _compared(self, body: Body, action: Action) -> Sequence[Run]:
@@ -431,7 +499,8 @@ class Said:
         for other in runs[1:]:
             if not self._alike.are_same(runs[0], other):
                 kind = "loop" if body.kind == "turn" else None
-                raise self._cannot(f"a {body.kind} ran more than once, and did something else", kind, in_words(action))
+                ended = other.began - 1 + self._recorder.preceding
+                raise self._cannot(f"a {body.kind} ran more than once, and did something else", kind, in_words(action), ended)
         return runs
 
     def _event(self, action: Action, bodies: Sequence[Body]) -> List[Any]:
@@ -547,9 +616,10 @@ class Said:
         return ["inline", action.helper.name, [["try", [["do", said]], ["Exception"], []]]]
 
     def _statements(self, run: Run) -> List[Any]:
-        statements = [self._statement(action) for action in run.actions]
-        if run.end is not None:
-            statements.append(["end", self._say(run.end)])
+        done = self._done(run)
+        statements = [self._statement(action) for action in done.actions]
+        if done.end is not None:
+            statements.append(["end", self._say(done.end)])
         return statements
 
     def _statement(self, action: Action) -> List[Any]:
@@ -571,11 +641,20 @@ class Said:
         body.helper = f"nested:{len(self._declared.pairs)}"
         return ["maybe", body.helper, name]
 
+    @property
+    def _has_all(self) -> bool:
+        """Whether all events have ended that are recorded."""
+        return self._counted(self._ended) == len(self._recorder.events)
+
     def _runs(self, body: Body) -> Sequence[Run]:
         """The runs of a body, but for those of an event that isn't part of the script."""
-        if self._counted(self._ended) == len(self._recorder.events):
+        if self._has_all:
             return body.runs
         return [run for run in body.runs if run.began + self._recorder.preceding <= self._ended]
+
+    def _done(self, run: Run) -> Done:
+        """What was done in a run, in the events of the script."""
+        return run.until(self._ended - self._recorder.preceding) if not self._has_all and run.kind == "inline" else run.done
 
     def _say_cooperators(self, script: Dict[str, Any]) -> None:
         """Says the Cooperators: the one that has no name, and those by name that the script uses."""
@@ -608,7 +687,7 @@ class Said:
     def _refuse_depth(self) -> None:
         """Bodies lie in each other too deep: names the deepest, and the kind of objects that would be told flat."""
         found = deepest(self.actions)
-        self._problem("bodies are nested too deep", found and found.kind, found.of if found else "")
+        self._cannot("bodies are nested too deep", found and found.kind, found.of if found else "")
 
     def _refuse_size(self, script: Dict[str, Any]) -> None:
         """Notes what is larger than a script may be. Where that is the whole run, the script is cut to its beginning."""
