@@ -15,6 +15,7 @@ from typing import List, Optional
 from twisted.internet import defer
 
 from deferreds.testing.folder import Folder
+from deferreds.twisted.children import MOST_BYTES
 from deferreds.twisted.instruments import install
 from deferreds.twisted.programs import Answer, Batches, Broken, Program
 from deferreds.twisted.recording.files import Place
@@ -501,7 +502,7 @@ class Fixed:
     def __init__(self, given: Optional[Answer]) -> None:
         self._given = given
 
-    def answer(self, script: str, batches: Optional[Batches] = None) -> Answer:
+    def answer(self, script: str, batches: Optional[Batches] = None, most: int = MOST_BYTES) -> Answer:
         """The answer."""
         if self._given is None:
             raise Broken("it can't be run")
