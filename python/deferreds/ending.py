@@ -10,7 +10,7 @@ import sys
 #: typing takes longer to import than most commands to start, and types aren't looked at then
 TYPE_CHECKING = False
 if TYPE_CHECKING:
-    from types import TracebackType
+    from types import FrameType, TracebackType
     from typing import IO, Any, Callable, NoReturn, Optional, Type
 
     Buffer = Any
@@ -21,6 +21,37 @@ WRITE_FAILED = 4
 
 class OutputFailed(Exception):
     """Standard output can't be written: why."""
+
+
+class Stopped(BaseException):
+    """A signal that ends the process has come."""
+
+    def __init__(self, number: int) -> None:
+        super().__init__(number)
+        self.number = number
+
+
+class stopping:
+    """Within it these signals raise Stopped in the main thread, if they would end the process. `ended` ends it by them."""
+
+    def __init__(self, *numbers: int) -> None:
+        self._numbers = numbers
+
+    def __enter__(self) -> None:
+        import signal
+
+        self._numbers = tuple(number for number in self._numbers if signal.getsignal(number) == signal.SIG_DFL)
+        for number in self._numbers:
+            signal.signal(number, self._stop)
+
+    def __exit__(self, _: Optional[Type[BaseException]], __: Optional[BaseException], ___: Optional[TracebackType]) -> None:
+        import signal
+
+        for number in self._numbers:
+            signal.signal(number, signal.SIG_DFL)
+
+    def _stop(self, number: int, _: Optional[FrameType]) -> None:
+        raise Stopped(number)
 
 
 class writing:
@@ -115,12 +146,20 @@ def ended(main: Callable[[], int], name: str) -> int:
     except KeyboardInterrupt:
         import signal
 
-        # a shell sees by the signal that it was Ctrl-C; threads that still run aren't waited for
-        signal.signal(signal.SIGINT, signal.SIG_DFL)
-        os.kill(os.getpid(), signal.SIGINT)
-        return 128 + signal.SIGINT
+        return _end_by(signal.SIGINT)
+    except Stopped as stopped:
+        return _end_by(stopped.number)
     finally:
         _flush_errors()
+
+
+def _end_by(number: int) -> int:
+    """Ends the process by a signal: a shell sees by it that it was Ctrl-C, say. Threads that still run aren't waited for."""
+    import signal
+
+    signal.signal(number, signal.SIG_DFL)
+    os.kill(os.getpid(), number)
+    return 128 + number
 
 
 def _flush_errors() -> None:

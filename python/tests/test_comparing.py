@@ -7,6 +7,7 @@ import unittest
 from typing import Callable, List, Optional
 
 from deferreds.twisted import grammar
+from deferreds.twisted.children import MOST_BYTES
 from deferreds.twisted.classes import BUILT_IN
 from deferreds.twisted.comparing import Comparison, compared, difference, is_of_level
 from deferreds.twisted.cutting import cut_down
@@ -24,7 +25,7 @@ class Twisted:
     def __init__(self, change: Callable[[str], str] = lambda output: output) -> None:
         self._change = change
 
-    def answer(self, script: str, batches: Optional[Batches] = None) -> Answer:
+    def answer(self, script: str, batches: Optional[Batches] = None, most: int = MOST_BYTES) -> Answer:
         """What Twisted prints, changed."""
         ran = run(script.encode(), batches)
         return Answer(ran.status, self._change(ran.output), "")
@@ -115,11 +116,11 @@ class Comparing(unittest.TestCase):
         class Hangs(Twisted):
             """It loses the text b, and answers nothing where there is no text a."""
 
-            def answer(self, script: str, batches: Optional[Batches] = None) -> Answer:
+            def answer(self, script: str, batches: Optional[Batches] = None, most: int = MOST_BYTES) -> Answer:
                 asked.append(script)
                 if '"a"' not in script:
                     return Answer(-1, "", "", Lack("no answer", True))
-                return super().answer(script, batches)
+                return super().answer(script, batches, most)
 
         comparison = Comparison(Twisted(), Hangs(lambda output: output.replace('"b"', '"c"')), 500)
         found = comparison.of_script(text)

@@ -14,6 +14,7 @@ from typing import List, NamedTuple, Optional
 from unittest import mock
 
 from deferreds.twisted.commands import conform
+from deferreds.twisted.causes import key_of
 from deferreds.twisted.comparing import Difference
 from deferreds.twisted.conforming import Progress, Tally
 from deferreds.twisted.programs import MOST_LATE, MOST_UNANSWERED, Lack
@@ -51,6 +52,34 @@ for line in sys.stdin.buffer:
     script = sys.stdin.buffer.read(int(line.split()[0]))
     {answer}
     sys.stdout.flush()
+"""
+
+
+#: in which ways a port starts processes: f forks, and the parent ends if it isn't the port itself; s makes a session
+_LEAVING = ("f", "fs", "fsf", "fsfsf")
+
+_LEAVES = """\
+#!{python}
+import os, time
+for way in {ways}:
+    leaf = False
+    for step in way:
+        if step == "s":
+            if leaf: os.setsid()
+        elif os.fork() == 0:
+            leaf = True
+        elif leaf:
+            os._exit(0)
+        else:
+            break
+    if leaf:
+        for each in (0, 1, 2): os.close(each)
+        with open({numbers!r}, "a") as file: file.write(f"{{os.getpid()}}\\n")
+        time.sleep({seconds})
+        os._exit(0)
+while not os.path.exists({numbers!r}) or len(open({numbers!r}).read().split()) < len({ways}): time.sleep(0.01)
+open({numbers!r} + ".all", "w").close()
+os.execv("/bin/sh", ["sh", "-c", {then!r}])
 """
 
 
@@ -188,21 +217,42 @@ class ShownTest(ConformTest):
         command = self.shell("cat >/dev/null; echo other")
         ran = conforming("--rows", "--show", "1", "--", command)
         self.assertEqual((ran.status, self.differing(ran.output)), (1, ["a note"]))
-        last = ["3 more differences aren't shown; --show all shows each", "0 passed, 4 failed"]
-        self.assertEqual(ran.output.splitlines()[-2:], last)
-        ran = conforming("--rows", "--show", "3", "--", command)
-        self.assertIn("1 more difference isn't shown; --show all shows each\n", ran.output)
+        last = [
+            "1 more differs as small.rows: a note does",
+            "2 more differences, of 2 more causes, aren't shown; --show all shows each",
+            "0 passed, 4 failed",
+        ]
+        self.assertEqual(ran.output.splitlines()[-3:], last)
+        ran = conforming("--rows", "--show", "2", "--", command)
+        self.assertIn("1 more difference, of one more cause, isn't shown; --show all shows each\n", ran.output)
 
     def test_all_are_shown_where_all_are_asked_for_or_fit(self) -> None:
         command = self.shell("cat >/dev/null; echo other")
-        for words in (["--show", "all"], ["--show", "4"], []):
+        for words, shown in ((["--show", "all"], 4), (["--show", "3"], 3), ([], 3)):
             ran = conforming("--rows", *words, "--", command)
-            self.assertEqual(len(self.differing(ran.output)), 4)
+            self.assertEqual(len(self.differing(ran.output)), shown)
             self.assertNotIn("shown", ran.output)
+
+    def test_differences_of_one_cause_are_counted(self) -> None:
+        cases = (
+            (('note "a"', "(the end)"), ('note "b"', "(the end)"), True),
+            (("fire #0 ok 1", "fire #0 ok 2"), ("fire #3 ok [1,2]", 'fire #3 ok "x"'), False),
+            (("fire #0 ok 1", "fire #0 ok 2"), ("fire #9 ok 5", "fire #9 ok 7"), True),
+            (("fire #0 fail TypeError \"\"", "fire #0 fail ValueError \"\""), ("fire #1 fail TypeError \"a\"", "fire #1 fail KeyError \"a\""), False),
+            (("later call answer 7", "later call answer 8"), ("later call other 9", "later call other 1"), True),
+            (("later call answer 7", "later call other 7"), ("later call answer 7", "later call answer 8"), False),
+            (("#0 backend ok 1", "#0 backend ok 2"), ("#1 x ok 3", "#1 x ok 4"), True),
+            (('note "a"', "(ended by status 3; standard error ends with: x)"), ('note "b"', "(ended by status 3; standard error ends with: y)"), True),
+            (('note "a"', "(ended by status 3)"), ('note "a"', "(ended by signal 11, SIGSEGV)"), False),
+            (("(the end)", ""), ("(the end)", "y"), False),
+        )  # fmt: skip
+        for first, second, is_one in cases:
+            keys = [key_of(Difference(1, *lines, None)) for lines in (first, second)]
+            self.assertEqual(keys[0] == keys[1], is_one, (first, second))
 
     def test_refusals_can_be_left_out(self) -> None:
         ran = conforming("--rows", "--no-refusals", "--", self.shell("cat >/dev/null"))
-        self.assertEqual(self.differing(ran.output), ["a note", "two notes", "a run that stops"])
+        self.assertEqual(self.differing(ran.output), ["a note", "a run that stops"])
         self.assertTrue(ran.output.endswith("\n0 passed, 3 failed\n"))
 
     def test_what_is_expected_is_named(self) -> None:
@@ -372,6 +422,82 @@ class WaitingTest(ConformTest):
     def test_a_command_that_does_not_read_is_no_failure_of_its_own(self) -> None:
         ran = conforming("--random", "2", "--ours", "true", "--", self.shell("exec <&-"))
         self.assertEqual((ran.status, ran.output), (0, "2 passed, 0 failed\n"))
+
+    def test_what_it_has_started_ends_with_it_whatever_that_did_to_leave_it(self) -> None:
+        for words, then in (([], "cat >/dev/null; exit 3"), (["--many"], "exit 3")):
+            with self.subTest(words=words):
+                ran = conforming("--random", "1", "--trials", "0", "--ours", "true", *words, "--", self.leaving(then))
+                self.assertEqual(ran.status, 1)
+                self.assert_all_end()
+
+    def test_a_signal_ends_the_command_and_what_it_has_started(self) -> None:
+        for number in (signal.SIGINT, signal.SIGTERM, signal.SIGHUP):
+            with self.subTest(signal=number):
+                self.assert_signal_ends(number, self.leaving(f"exec sleep {_LONG}"))
+
+    @property
+    def numbers(self) -> Path:
+        """Where the processes that a port starts write their numbers."""
+        return self.folder / "numbers"
+
+    def leaving(self, then: str) -> str:
+        """A port that has started processes in each way of _LEAVING, which hold none of its pipes, and goes on as a shell."""
+        for name in ("numbers", "numbers.all"):
+            (self.folder / name).unlink(missing_ok=True)
+        return self.command(_LEAVES.format(python=sys.executable, ways=_LEAVING, numbers=str(self.numbers), seconds=_LONG, then=then))
+
+    def assert_all_end(self) -> None:
+        """All processes that a port has started run no more."""
+        numbers = self.numbers.read_text(encoding="utf-8").split()
+        self.assertEqual(len(numbers), len(_LEAVING))
+        for number in numbers:
+            self.assert_ends(int(number))
+
+    def assert_signal_ends(self, by: int, port: str) -> None:
+        """The command ends by this signal while it waits for a port, and so does what the port has started."""
+        words = ["--random", "1", "--timeout", str(_LONG), "--ours", "true", "--", port]
+        process = subprocess.Popen(
+            [sys.executable, "-m", "deferreds.twisted", "conform", *words],
+            env={**os.environ, "PYTHONPATH": os.pathsep.join(filter(None, sys.path))},
+            stdout=subprocess.DEVNULL,
+            stderr=subprocess.PIPE,
+        )
+        with process:
+            self.addCleanup(process.kill)
+            deadline = time.monotonic() + _LONG / 2
+            while not (self.folder / "numbers.all").exists() and time.monotonic() < deadline:
+                time.sleep(0.01)
+            process.send_signal(by)
+            assert process.stderr is not None
+            errors = process.stderr.read()
+            self.assertEqual(process.wait(_LONG / 2), -by)
+        self.assertEqual(errors, b"")
+        self.assert_all_end()
+
+    def test_a_signal_that_is_ignored_stays_so(self) -> None:
+        code = "import os, signal, sys\nsignal.signal(signal.SIGHUP, signal.SIG_IGN)\nos.execv(sys.argv[1], sys.argv[1:])"
+        port = self.shell("cat >/dev/null; kill -HUP $PPID")
+        words = ["-m", "deferreds.twisted", "conform", "--random", "1", "--ours", "true", "--", port]
+        ran = subprocess.run(
+            [sys.executable, "-c", code, sys.executable, *words],
+            env={**os.environ, "PYTHONPATH": os.pathsep.join(filter(None, sys.path))}, capture_output=True, timeout=_LONG, check=False,
+        )  # fmt: skip
+        self.assertEqual((ran.returncode, ran.stdout), (0, b"1 passed, 0 failed\n"))
+
+    def test_a_port_that_prints_valid_lines_for_ever_takes_little_memory(self) -> None:
+        code = (
+            "import resource, sys\nfrom deferreds.twisted.commands import conform\nstatus = conform.main(sys.argv[1:])\n"
+            "print(resource.getrusage(resource.RUSAGE_SELF).ru_maxrss, file=sys.stderr)\nsys.exit(status)"
+        )
+        port = self.shell("cat >/dev/null; exec yes 'note \"a\"'")
+        for more in ([], ["--many"]):
+            command = self.many("sys.stdout.write('0 999999999 0\\n'); [sys.stdout.write('note \"a\"\\n' * 1000) for _ in range(100_000)]") if more else port
+            ran = subprocess.run(
+                [sys.executable, "-c", code, "--random", "3", "--trials", "5", "--ours", "true", *more, "--", command],
+                env={**os.environ, "PYTHONPATH": os.pathsep.join(filter(None, sys.path))}, capture_output=True, timeout=_LONG, check=False,
+            )  # fmt: skip
+            self.assertEqual(ran.returncode, 1, ran.stderr)
+            self.assertLess(int(ran.stderr.split()[-1]), 150_000, "kibibytes")
 
     def test_ctrl_c_ends_the_command_too(self) -> None:
         number = self.folder / "number"

@@ -16,6 +16,7 @@ from unittest import mock
 from twisted.internet import defer
 
 from deferreds.testing.folder import Folder
+from deferreds.twisted.children import MOST_BYTES
 from deferreds.twisted.instruments import install
 from deferreds.twisted.programs import Answer, Batches, Broken, Program
 from deferreds.twisted.recording import endings
@@ -586,7 +587,7 @@ class Fixed:
     def __init__(self, given: Optional[Answer]) -> None:
         self._given = given
 
-    def answer(self, script: str, batches: Optional[Batches] = None) -> Answer:
+    def answer(self, script: str, batches: Optional[Batches] = None, most: int = MOST_BYTES) -> Answer:
         """The answer."""
         if self._given is None:
             raise Broken("it can't be run")

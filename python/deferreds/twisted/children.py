@@ -9,13 +9,34 @@ import selectors
 import signal
 import subprocess
 import time
-from typing import IO, Callable, List, Optional, Sequence
+from typing import IO, Callable, Iterator, List, Optional, Sequence, Set
 
-#: how many bytes an answer has at most; a journal and its outcomes have far fewer
+from .family import Family
+
+#: how many bytes an answer has at most, where it isn't known what it has to be; a journal and its outcomes have far fewer
 MOST_BYTES = 64 * 1024 * 1024
+
+#: how many bytes are kept of what is written to standard error, which are the last ones
+_MOST_ERRORS = 65_536
 
 _CHUNK = 65_536
 _SECONDS_TO_END = 5.0
+
+#: the children that may still run, and what they belong to, where all of it is to be ended
+_running: Set["Child"] = set()
+_family: Optional[Family] = None
+
+
+@contextlib.contextmanager
+def ending_all() -> Iterator[Family]:
+    """Has a child end with all that it has started, whatever that did to leave it. This is for a process that starts children alone."""
+    global _family
+    with Family() as family:
+        _family = family
+        try:
+            yield family
+        finally:
+            _family = None
 
 
 class Came(enum.Enum):
@@ -30,7 +51,7 @@ class Came(enum.Enum):
 class Child:
     """A process with pipes, in a group of processes of its own, so that what it has started can be ended with it.
 
-    Raises OSError where the command can't be run.
+    What has left the group is ended, too, within `ending_all`, once no other child runs. Raises OSError where the command can't be run.
     """
 
     def __init__(self, command: Sequence[str], takes_errors: bool) -> None:
@@ -48,10 +69,13 @@ class Child:
         #: what it has written to standard output, and to standard error, where that is taken
         self.output = bytearray()
         self.errors = bytearray()
+        #: how many bytes of that aren't kept any more
+        self._dropped = 0
+        _running.add(self)
 
-    def exchange(self, data: bytes, seconds: float, is_whole: Optional[Callable[[], bool]] = None) -> Came:
-        """Writes the data, and reads until the answer is whole. Without `is_whole` that is where the process has closed its
-        output; its input is closed then after the data."""
+    def exchange(self, data: bytes, seconds: float, is_whole: Optional[Callable[[], bool]] = None, most: int = MOST_BYTES) -> Came:
+        """Writes the data, and reads until the answer is whole, or has more than so many bytes. Without `is_whole` it is whole where the
+        process has closed its output; its input is closed then after the data."""
         deadline = time.monotonic() + seconds
         with selectors.DefaultSelector() as selector:
             selector.register(self._input, selectors.EVENT_WRITE)
@@ -62,7 +86,7 @@ class Child:
             while left or is_whole is None or not is_whole():
                 if not any(key.events == selectors.EVENT_READ for key in selector.get_map().values()):
                     return Came.ENDED
-                if len(self.output) + len(self.errors) > MOST_BYTES:
+                if len(self.output) > most or self._dropped > MOST_BYTES:
                     return Came.TOO_LONG
                 remaining = deadline - time.monotonic()
                 if remaining <= 0:
@@ -74,10 +98,13 @@ class Child:
                         left = self._write(selector, left, is_whole is None)
         return Came.WHOLE
 
-    @staticmethod
-    def _read(selector: selectors.BaseSelector, key: selectors.SelectorKey) -> None:
+    def _read(self, selector: selectors.BaseSelector, key: selectors.SelectorKey) -> None:
         chunk = os.read(key.fd, _CHUNK)
         key.data.extend(chunk)
+        more = len(self.errors) - _MOST_ERRORS
+        if more > 0:
+            del self.errors[:more]
+            self._dropped += more
         if not chunk:
             selector.unregister(key.fileobj)
 
@@ -108,15 +135,23 @@ class Child:
         if self.wait(_SECONDS_TO_END) is None:
             self.kill()
         self._close(self._process.stdout, self._process.stderr)
+        self._end_rest()
 
     def kill(self) -> None:
-        """Kills it, and all that it has started in its group."""
+        """Kills it, and all that it has started."""
         self.interrupt()
         self.wait(_SECONDS_TO_END)
         self._close(self._input, self._process.stdout, self._process.stderr)
+        self._end_rest()
+
+    def _end_rest(self) -> None:
+        """Kills what is left of it, if that can be told from what other children have started."""
+        _running.discard(self)
+        if _family is not None and not _running:
+            _family.end()
 
     def interrupt(self) -> None:
-        """Kills it and what it has started, from any thread: who reads from it sees its end."""
+        """Kills it and its group, from any thread: who reads from it sees its end."""
         if self._process.returncode is None:  # once it has been waited for, the number may be another process's
             with contextlib.suppress(ProcessLookupError, PermissionError):
                 os.killpg(self._process.pid, signal.SIGKILL)

@@ -8,16 +8,22 @@ from typing import Callable, Iterator, List, NamedTuple, Optional, Sequence, Set
 
 from ..orders import Order
 from . import grammar
-from .children import last_line, named_status
+from .children import MOST_BYTES, last_line, named_status
 from .classes import BUILT_IN
 from .cutting import cut_down
 from .posts import Batch, batches_of, has_posts
 from .profile import Entry
 from .programs import Answer, Program
-from .rows import filled
+from .rows import ANY_LINES, filled
 from .running import AT_LIMIT, OVER, UNMET, Run, run
 from .script import Refused, read
 
+
+#: how many bytes an answer may have beyond twice those that are expected
+MORE_BYTES = 1 << 20
+
+#: how many bytes count for each line that a row leaves out
+_BYTES_OF_A_LINE = 64
 
 _REFUSED = re.compile(r"script refused: (\d+ \w+)")
 
@@ -124,6 +130,19 @@ class Case(NamedTuple):
     order: Optional[Order] = None
 
 
+def most_bytes(script: str, expected: Answer) -> int:
+    """How many bytes are read of an answer to the script, where this one is expected. One that differs by an entry has fewer."""
+    known = 2 * len(expected.output.encode("utf-8", "replace"))
+    return min(MOST_BYTES, known + _left_out(script, expected) + MORE_BYTES)
+
+
+def _left_out(script: str, expected: Answer) -> int:
+    """How many bytes the lines may have that a row leaves out: the limit of the journal has room for so many lines."""
+    if f"{ANY_LINES}\n" not in expected.output:
+        return 0
+    return _BYTES_OF_A_LINE * int(json.loads(script).get("limit", 0))
+
+
 class Comparison:
     """Compares one program with ours, script by script."""
 
@@ -134,9 +153,9 @@ class Comparison:
         #: how many answers theirs was asked for
         self._asked = 0
 
-    def _answer(self, script: str, batches: Optional[List[Batch]]) -> Answer:
+    def _answer(self, script: str, case: Case) -> Answer:
         self._asked += 1
-        return self._theirs.answer(script, batches)
+        return self._theirs.answer(script, case.batches, most_bytes(script, case.expected))
 
     def of_script(self, script: str) -> Optional[Difference]:
         """In what the programs differ on a script."""
@@ -149,7 +168,7 @@ class Comparison:
         """
         found: Optional[Difference] = None
         for case in self._cases(script, expected):
-            other = difference(script, case.expected, self._answer(script, case.batches), case.batches)
+            other = difference(script, case.expected, self._answer(script, case), case.batches)
             if self._settles(other):
                 return other and other._replace(order=case.order)
             if other is not None and (found is None or (found.entry is None and other.entry is not None)):

@@ -10,6 +10,7 @@ from typing import Callable, Counter, Iterator, List, Optional, Sequence, TextIO
 
 from ..checkout import command_name
 from ..survey import batches_text
+from .causes import Causes
 from .comparing import Comparison, Difference, is_of_level
 from .in_orders import Chosen, InOrders, Orders
 from .programs import MOST_LATE, MOST_UNANSWERED, Answer, Many, Once, Program, ours
@@ -110,9 +111,9 @@ class Conforming:
         self._total: int = len(self._rows) + len(scripts) + arguments.random
         self._tally = Tally()
         self._progress = Progress(sys.stderr, self._total, arguments.progress)
-        #: how many differences may still be shown, if not all, and how many weren't
+        #: how many differences may still be shown, each of another cause, if not all
         self._left: Optional[int] = arguments.show
-        self._hidden = 0
+        self._causes = Causes()
 
     def _chosen(self) -> Iterator[Expected]:
         for path in row_files():
@@ -142,8 +143,9 @@ class Conforming:
         for row in self._rows:
             found = self._comparison.of_row(row.script, Answer(row.status, row.output, row.errors))
             self._count(row.script, found)
-            if found is not None and self._may_show(found):
-                self._show(f"{row.file}: {row.name}", row.script, found)
+            name = f"{row.file}: {row.name}"
+            if found is not None and self._may_show(name, found):
+                self._show(name, row.script, found)
             if self._tally.given_up():
                 break
         return self._tally.given_up()
@@ -153,7 +155,7 @@ class Conforming:
         for name, script in self._scripts:
             found = self._comparison.of_script(script)
             self._count(script, found)
-            if found is not None and self._may_show(found):
+            if found is not None and self._may_show(name, found):
                 self._show(name, script, found)
             if self._tally.given_up():
                 break
@@ -167,8 +169,8 @@ class Conforming:
             script = scripts.script(number)
             found = self._comparison.of_script(script)
             self._count(script, found)
-            if found is not None and self._may_show(found):
-                name = f"random script {number} of seed {seed}, level {self._level}"
+            name = f"random script {number} of seed {seed}, level {self._level}"
+            if found is not None and self._may_show(name, found):
                 smaller = self._comparison.cut_down(script, found, self._cutting)
                 again = self._comparison.of_script(smaller) if smaller != script else found
                 # a program that doesn't differ each time is shown by what was seen
@@ -186,16 +188,16 @@ class Conforming:
     def _cutting(self, tried: int) -> None:
         self._progress.say(self._tally.runs, self._tally.failed, f"; cuts a script down, {tried} tried")
 
-    def _may_show(self, found: Difference) -> bool:
-        """Whether this is shown: what no entry names, and all where all are asked for, as long as there is room."""
+    def _may_show(self, name: str, found: Difference) -> bool:
+        """Whether this is shown: the first one of each cause, of what no entry names, and of all where all are asked for, as long as
+        there is room."""
         if found.entry is not None and not self._arguments.all:
             return False
-        if self._left == 0:
-            self._hidden += 1
-            return False
-        if self._left is not None:
-            self._left -= 1
-        return True
+        if self._left is None:
+            return True
+        is_shown = self._causes.count(name, found, self._left > 0)
+        self._left -= is_shown
+        return is_shown
 
     def _show(self, name: str, script: str, found: Difference) -> None:
         self._progress.clear()
@@ -206,10 +208,7 @@ class Conforming:
 
     def _tell(self, why: Optional[str]) -> None:
         """The last lines."""
-        lines: List[str] = []
-        if self._hidden:
-            more = "more difference isn't" if self._hidden == 1 else "more differences aren't"
-            lines.append(f"{self._hidden} {more} shown; --show all shows each")
+        lines: List[str] = self._causes.lines()
         lines += [
             f"{count} differ as docs/TWISTED.md says: {name}" for name, count in sorted(self._tally.named.items())
         ]

@@ -4,6 +4,7 @@ from __future__ import annotations
 
 import json
 import os
+import threading
 import time
 from typing import List, NamedTuple, Optional, Protocol, Sequence, Tuple
 
@@ -47,8 +48,8 @@ class Broken(Exception):
 class Program(Protocol):
     """What can be asked what a script prints."""
 
-    def answer(self, script: str, batches: Optional[Batches] = None) -> Answer:
-        """The answer for this script, where the posts are taken in these batches."""
+    def answer(self, script: str, batches: Optional[Batches] = None, most: int = MOST_BYTES) -> Answer:
+        """The answer for this script, where the posts are taken in these batches, if it has no more than so many bytes."""
 
     def close(self) -> None:
         """It isn't asked any more."""
@@ -67,21 +68,24 @@ class _Command:
         self._is_once = is_once
         self._child: Optional[Child] = None
         self._interrupted = False
+        #: held while a process is started, so that one that is interrupted has been started, or isn't
+        self._starting = threading.Lock()
 
     def _start(self, words: Sequence[str] = ()) -> Child:
-        if self._interrupted:
-            raise SystemExit(1)
-        try:
-            self._child = child = Child([*self._command, *words], self._is_once)
-        except (OSError, ValueError) as error:
-            why = getattr(error, "strerror", None) or error
-            raise Broken(f"{self._command[0]} can't be run: {why}") from None
+        with self._starting:
+            if self._interrupted:
+                raise SystemExit(1)
+            try:
+                self._child = child = Child([*self._command, *words], self._is_once)
+            except (OSError, ValueError) as error:
+                why = getattr(error, "strerror", None) or error
+                raise Broken(f"{self._command[0]} can't be run: {why}") from None
         return child
 
-    def _lacks(self, came: Came, child: Child) -> Answer:
+    def _lacks(self, came: Came, child: Child, most: int) -> Answer:
         """The answer of a process that has given no whole one. It is killed."""
         late = came is Came.LATE
-        why = f"no answer within {self._seconds:g} seconds" if late else f"more than {MOST_BYTES} bytes of output"
+        why = f"no answer within {self._seconds:g} seconds" if late else f"more than {most} bytes of output"
         self._drop()
         output = _text(child.output) if self._is_once else ""
         return Answer(-1, output, _text(child.errors), Lack(why, late))
@@ -101,8 +105,9 @@ class _Command:
 
     def interrupt(self) -> None:
         """Kills what runs, from another thread than the one that waits for its answer, which raises SystemExit."""
-        self._interrupted = True
-        child = self._child
+        with self._starting:
+            self._interrupted = True
+            child = self._child
         if child is not None:
             child.interrupt()
 
@@ -114,16 +119,16 @@ class Once(_Command):
         super().__init__(command, seconds, True)
         self._takes_batches = takes_batches
 
-    def answer(self, script: str, batches: Optional[Batches] = None) -> Answer:
+    def answer(self, script: str, batches: Optional[Batches] = None, most: int = MOST_BYTES) -> Answer:
         """Runs the command on the script. Raises Broken where it can't be run."""
         start = time.monotonic()
         child = self._start(["--batches", json.dumps(batches)] if batches and self._takes_batches else [])
-        came = child.exchange(script.encode(), self._seconds)
+        came = child.exchange(script.encode(), self._seconds, most=most)
         if came is not Came.ENDED:
-            return self._lacks(came, child)
+            return self._lacks(came, child, most)
         status = child.wait(start + self._seconds - time.monotonic())
         if status is None:
-            return self._lacks(Came.LATE, child)
+            return self._lacks(Came.LATE, child, most)
         self._drop()
         return Answer(status, _text(child.output), _text(child.errors))
 
@@ -134,17 +139,17 @@ class Many(_Command):
     def __init__(self, command: Sequence[str], seconds: float = SECONDS) -> None:
         super().__init__([*command, "--many"], seconds, False)
 
-    def answer(self, script: str, batches: Optional[Batches] = None) -> Answer:
+    def answer(self, script: str, batches: Optional[Batches] = None, most: int = MOST_BYTES) -> Answer:
         """Asks for the answer to the script; the command is started where it doesn't run. Raises Broken where it can't be run."""
         child = self._child or self._start()
         data = script.encode()
         words = f" {json.dumps(batches)}" if batches else ""
         reply = _Reply(child.output)
-        came = child.exchange(f"{len(data)}{words}\n".encode() + data, self._seconds, reply.is_whole)
+        came = child.exchange(f"{len(data)}{words}\n".encode() + data, self._seconds, reply.is_whole, most)
         if came is Came.ENDED:
             return self._ended(child)
         if came is not Came.WHOLE:
-            return self._lacks(came, child)
+            return self._lacks(came, child, most)
         if reply.wrong is not None:
             self._drop()
             return Answer(-1, "", "", Lack(f"a line that isn't three numbers: {reply.wrong}"))

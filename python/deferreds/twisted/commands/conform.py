@@ -1,7 +1,7 @@
 """`./conform [--rows] [--random N --seed S] [--script FILE] [--level LEVEL] [--orders] -- COMMAND..`: compares an implementation with `deferreds`.
 
-COMMAND reads a script on standard input, and prints journal and outcomes, as `./on_twisted` does. The first line of each difference is
-printed. If Twisted does as COMMAND does, and `docs/TWISTED.md` has an entry for that, the entry is named, and the run counts as passed.
+COMMAND reads a script on standard input, and prints journal and outcomes, as `./on_twisted` does. The first line that differs is printed,
+of one script for each cause: differences whose lines have the same words count as of one. If Twisted does as COMMAND does, and `docs/TWISTED.md` has an entry for that, the entry is named, and the run counts as passed.
 The last line is `N passed, M failed`, and the status is 0 exactly if M is 0.
 
 With --orders a script with posts is compared in every order in which they may be taken, and not in the one that happened. If it has
@@ -9,7 +9,8 @@ more than --most N, it is compared in N of them, spread evenly; if it has more t
 `./deferreds --orders --sample K --seed S` does. A difference is printed with its order.
 
 A COMMAND that ends early, or doesn't answer in time, fails that run, and is reported with the script. After {late} scripts in a row
-without an answer in time no more are asked, nor after the first {unanswered} if none was answered.
+without an answer in time no more are asked, nor after the first {unanswered} if none was answered. What COMMAND has started is killed
+when it has ended, and when this command ends.
 
 Status 1: a run failed; 4: standard output can't be written; 64: the arguments are wrong; 66: the file of a script can't be
 read; 70: a program can't be run, or Twisted isn't known.
@@ -19,6 +20,7 @@ from __future__ import annotations
 
 import argparse
 import math
+import signal
 import sys
 from pathlib import Path
 from typing import List, Optional
@@ -26,8 +28,9 @@ from typing import List, Optional
 from ...arguments import USAGE, Parser
 from ...bounds import MOST_ORDERS, MOST_SEED
 from ...checkout import as_called, command_name
-from ...ending import writing
+from ...ending import Stopped, stopping, writing
 from .. import grammar
+from ..children import ending_all
 from ..programs import MOST_LATE, MOST_UNANSWERED, SECONDS, Broken
 
 _SHOWN = 20
@@ -90,7 +93,7 @@ def _arguments(words: List[str]) -> argparse.Namespace:
     add("--most", type=_most, metavar="N", help=f"with --orders: in at most N orders of a script ({_ORDERS})")
     add("--sample", type=_most, metavar="K", help="with --orders: in at most K orders, which are drawn if a script has more")
     add("--all", action="store_true", help="also show the differences that have an entry")
-    add("--show", type=_shown, metavar="N", default=_SHOWN, help=f"show at most N differences, or `all` ({_SHOWN})")
+    add("--show", type=_shown, metavar="N", default=_SHOWN, help=f"show at most N differences, each of another cause, or `all` ({_SHOWN})")
     add("--many", action="store_true", help="COMMAND takes --many, as docs/PORTING.md says")
     add(
         "--timeout",
@@ -157,9 +160,12 @@ def main(words: List[str]) -> int:
             print(f"{command_name('conform')}: {broken}", file=sys.stderr)
             return 70
 
-    try:
-        return with_room(compare)
-    except KeyboardInterrupt:
-        for conforming in running:
-            conforming.interrupt()
-        raise
+    with stopping(signal.SIGTERM, signal.SIGHUP), ending_all():
+        try:
+            return with_room(compare)
+        except (KeyboardInterrupt, Stopped):
+            for number in (signal.SIGINT, signal.SIGTERM, signal.SIGHUP):
+                signal.signal(number, signal.SIG_IGN)
+            for conforming in running:
+                conforming.interrupt()
+            raise
