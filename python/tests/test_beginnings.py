@@ -179,7 +179,7 @@ class Times(unittest.TestCase):
     def test_the_beginning_that_has_times_is_said(self) -> None:
         reactor = SimpleNamespace(now=0.0, seconds=lambda: reactor.now)
         recorder = Recorder()
-        recorder.clock = reactor
+        recorder.use_clock(reactor)
         pace = recorder.pace = Pace(recorder, reactor)
         with recorder.watching():
             call = pace.later(0.005)
