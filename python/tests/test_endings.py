@@ -368,6 +368,7 @@ class Ends(RecordingCase):
         self.assertEqual(ended.status, -signal.SIGTERM, ended.said)
         self.assert_goes_together("killed")
         self.assertEqual(self.facts("killed")["ended"], "SIGTERM")
+        self.assertIn(", until SIGTERM; ./deferreds prints the same up to there\n", ended.said)
 
     def test_a_signal_in_the_midst_of_an_event(self) -> None:
         for number in (signal.SIGTERM, signal.SIGHUP):

@@ -27,12 +27,10 @@ class Recording:
 
     def __init__(self, program: str, *words: str) -> None:
         """`program`: its name and its words; `words`: those of the command."""
-        name, *given = program.split()
         with tempfile.TemporaryDirectory() as folder:
-            command = ["-m", "deferreds.twisted", "record", *words, "-o", os.path.join(folder, "run")]
-            command += [os.fspath(PROGRAMS / f"{name}.py"), *given]
+            command = ["-m", "deferreds.twisted", "record", *words, "-o", os.path.join(folder, "run"), *words_of(program)]
             ran = run(command, folder, environment())
-            self.status, self.said = ran.returncode, ran.stderr
+            self.status, self.printed, self.said = ran
             self.script, self.journal = (_text(Path(folder, f"run.{kind}")) for kind in ("json", "journal"))
 
     @property
@@ -53,11 +51,16 @@ class Recording:
         return Fraction(told[1]) / 1_000 ** ("s", "ms", "µs", "ns").index(told[2])
 
 
+def words_of(program: str) -> List[str]:
+    """The name of a program as that of its file, with the words that follow."""
+    return [os.fspath(PROGRAMS / f"{word}.py") if (PROGRAMS / f"{word}.py").exists() else word for word in program.split()]
+
+
 def _text(path: Path) -> str:
     return path.read_text(encoding="utf-8") if path.exists() else ""
 
 
-class RealReactor(unittest.TestCase):
+class ProgramTest(unittest.TestCase):
     """A program that has its reactor run."""
 
     def recorded(self, name: str, by_chance: Optional[str] = None, *words: str) -> Recording:
@@ -84,6 +87,10 @@ class RealReactor(unittest.TestCase):
         rest = iter(lines)
         for line in expected:
             self.assertIn(line, rest)
+
+
+class RealReactor(ProgramTest):
+    """Programs on the reactor that Twisted chooses."""
 
     def test_an_error_that_leaves_a_delayed_call(self) -> None:
         recording = self.recorded("error_in_a_call")
@@ -150,9 +157,6 @@ class RealReactor(unittest.TestCase):
         resets = [line for line in recording.lines if line.startswith("reset ")]
         self.assertEqual(len(resets), 6)
         self.assertEqual(json.loads(recording.script)["version"], 3)
-
-    def test_futures_of_asyncio(self) -> None:
-        self.assertTrue(any(line.startswith('note "(') for line in self.recorded("futures").lines))
 
     def test_results_of_threads_come_at_their_times(self) -> None:
         recording = self.recorded("result_of_a_thread")

@@ -335,6 +335,14 @@ class PytestTest(TestingTest):
         self.assertIn("a script can&#x27;t say this: the result of a Deferred is set by hand", page)
 
     def test_cases_of_trial(self) -> None:
+        self.assert_cases_are_recorded()
+
+    def test_cases_of_trial_under_the_reactor_of_asyncio(self) -> None:
+        self.write("conftest.py", "from twisted.internet import asyncioreactor\nasyncioreactor.install()\n")
+        self.assert_cases_are_recorded()
+
+    def assert_cases_are_recorded(self) -> None:
+        """Cases that wait for the reactor have the same results recorded, and what they leave is recorded."""
         self.write("test_cases.py", _CASES)
         told = self.both("test_cases.py").told
         unfired = f"left behind: nobody fired #1·test_unfired_{_UNFIRED}"
@@ -392,9 +400,16 @@ class TrialTest(TestingTest):
         return dict(re.findall(r"^ +(test_\w+) \.\.\. +\[(.*)\]", ran.output, re.MULTILINE))
 
     def test_cases(self) -> None:
+        self.assert_cases_are_recorded()
+
+    def test_cases_under_the_reactor_of_asyncio(self) -> None:
+        self.assert_cases_are_recorded("--reactor", "asyncio")
+
+    def assert_cases_are_recorded(self, *words: str) -> None:
+        """Cases that wait for the reactor have the same results recorded, and what they leave is recorded."""
         self.write("test_cases.py", _CASES)
-        bare = self.trial("test_cases")
-        ran = self.trial("--deferreds-record", self.out, "test_cases")
+        bare = self.trial(*words, "test_cases")
+        ran = self.trial("--deferreds-record", self.out, *words, "test_cases")
         self.assertEqual(self.results(ran), self.results(bare), ran.output)
         self.assertIn("test_is_late", self.results(ran))
         self.assertEqual((ran.status, bare.status), (1, 1))

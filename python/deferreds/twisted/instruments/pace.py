@@ -5,6 +5,8 @@ The times of lines and actions are set when the run is said (`settle`). Until th
 
 from __future__ import annotations
 
+import asyncio
+from contextvars import Context
 from fractions import Fraction
 from typing import Any, Callable, Dict, List, NamedTuple, Optional, Tuple
 
@@ -67,6 +69,11 @@ class Pace:
         #: when the reactor has looked what is due, and whether it has run that since something came from elsewhere
         self._turn: Optional[int] = None
         self._fresh = False
+        #: asyncio's loop, if that is what runs the reactor, and whether time has gone on to what happens in this turn of it
+        self._loop = loop_of(reactor)
+        self._told = False
+        #: whether another loop runs the reactor, whose turns aren't known
+        self._is_driven = self._loop is None and type(reactor).callLater is not base.ReactorBase.callLater
 
     def _real(self) -> int:
         """The reactor's time, in whole units since the run began."""
@@ -84,7 +91,30 @@ class Pace:
 
     def end_turn(self) -> None:
         """The reactor has run what was due: what comes next comes from elsewhere."""
-        self._turn, self._fresh = None, True
+        self._turn, self._fresh, self._told = None, True, False
+
+    def _is_fresh(self) -> bool:
+        """Whether what comes from elsewhere now is the first in a turn."""
+        if self._is_driven:
+            return self._fresh or self._real() >= self._steps[-1].real + MILLISECOND
+        return self._fresh or (not self._told and self._is_in_loop())
+
+    def _is_in_loop(self) -> bool:
+        """Whether asyncio's loop, which runs the reactor, is what calls."""
+        return self._loop is not None and asyncio._get_running_loop() is self._loop
+
+    def _tell_time(self) -> None:
+        """Time goes on to what comes from elsewhere, and not again in this turn.
+
+        asyncio's loop calls much that isn't the reactor's, so it is asked to tell when its next turn begins.
+        """
+        self._fresh = False
+        if not self._told and self._is_in_loop():
+            self._told = True
+            self._loop.call_soon(self._begin_turn_of_loop, context=Context())
+
+    def _begin_turn_of_loop(self) -> None:
+        self._told = False
 
     # what is scheduled
 
@@ -215,10 +245,10 @@ class Pace:
         """The program does something of its own: time goes on to that, once in a turn of the reactor's, and where a loop starts."""
         step = self._steps[-1]
         step.closed = True
-        if not self._fresh and (not starts_loop or (step is self._steps[0] and not step.starts)):
+        if not self._is_fresh() and (not starts_loop or (step is self._steps[0] and not step.starts)):
             return
-        self._fresh = False
-        advance = self._begin(None, self._real())
+        self._tell_time()
+        advance = self._begin(None, self._real() if self._turn is None else self._turn)
         self._watcher.act(advance, self._watcher.parts.append, advance)
 
     def run(self, waiting: Waiting, happen: Callable[[], Any]) -> Any:
@@ -231,7 +261,7 @@ class Pace:
         if self._turn is None:
             self._turn = self._real()
         advance = self._begin(waiting.entry, self._turn)
-        self._fresh = False
+        self._fresh, self._told = False, True
 
         def perform() -> Any:
             watcher.parts.append(advance)
@@ -331,6 +361,11 @@ def _due_turn(entry: Entry, loop: Loop) -> int:
 def seconds_of(units: int) -> Fraction:
     """A number of units, in seconds, exactly."""
     return Fraction(units, UNITS)
+
+
+def loop_of(reactor: Any) -> Any:
+    """asyncio's loop, if that is what runs a reactor."""
+    return getattr(reactor, "_asyncioEventloop", None) if is_real(reactor) else None
 
 
 def is_real(clock: object) -> bool:

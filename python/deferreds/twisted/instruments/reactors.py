@@ -2,6 +2,10 @@
 
 A call that lies in many bodies of others is recorded with an empty body, and what it does is recorded as events that come right after
 its `call` line: the lines are the same, and the script isn't nested too deep.
+
+Some reactors are run by another loop, as asyncio's: they have a `callLater` of their own, which has that loop wait for the call. So
+everything is scheduled by the reactor's own method, which calls the instrument. What such a reactor schedules by itself isn't recorded:
+a function from `callFromThread` is an event when it runs, as on every other reactor.
 """
 
 from __future__ import annotations
@@ -10,6 +14,7 @@ import contextlib
 import functools
 import os
 import sys
+from asyncio import base_events, events
 from types import FrameType
 from typing import Any, Callable, Optional
 
@@ -20,7 +25,7 @@ from zope.interface import directlyProvides
 from ..telling import Action, Observer, Time, observer_of, observers_on, watched
 from .clock import Delayed, Own, is_delay, own_call, run_delayed, tried
 from .pace import Pace, Waiting, has_clock, is_real
-from .scheduled import stand_for
+from .scheduled import RUN, Unrecorded, stand_for
 
 _later = base.ReactorBase.callLater
 _turn = base.ReactorBase.runUntilCurrent
@@ -38,16 +43,32 @@ _LOGGING = (
 )
 _INTERNET = os.path.join("twisted", "internet", "")
 
+_FOLDER = os.path.dirname(str(base.__file__))
+#: the file of asyncio's reactor, which also schedules something by itself; and those of what runs reactors, beside that of all of them:
+#: the reactors that have a `callLater` of their own, and asyncio's loop
+_ASYNCIO = os.path.join(_FOLDER, "asyncioreactor.py")
+LOOPS = frozenset(
+    [_ASYNCIO, *(os.path.join(_FOLDER, f"{name}.py") for name in ("cfreactor", "_glibbase", "_threadedselect"))]
+    + [base_events.__file__, events.__file__]
+)
 
-def schedule_waiting(watcher: Observer, reactor: Any, delay: float, waiting: Waiting, call: Callable[[], Any]) -> Any:
-    """Schedules something of Twisted's own, whose line is logged."""
+
+def schedule_waiting(
+    watcher: Observer, reactor: Any, delay: float, waiting: Waiting, call: Callable[[], Any], given: Callable[..., Any]
+) -> Any:
+    """Schedules something of Twisted's own, whose line is logged. `given` is the function for which Twisted asks."""
+    made = reactor.callLater(delay, _waiting_call(watcher, waiting, call, given))
+    _keep_waiting(watcher, made, waiting)
+    return made
+
+
+def _waiting_call(watcher: Observer, waiting: Waiting, call: Callable[[], Any], given: Callable[..., Any]) -> Unrecorded:
+    """What a reactor calls in the place of a function of Twisted's own."""
 
     def due() -> Any:
         return call() if watched.observer is not watcher else watcher.pace.run(waiting, call)
 
-    made = _later(reactor, delay, due)
-    _keep_waiting(watcher, made, waiting)
-    return made
+    return Unrecorded(due, given)
 
 
 def _keep_waiting(watcher: Observer, call: Any, waiting: Waiting) -> None:
@@ -62,6 +83,8 @@ def waiting_of(watcher: Optional[Observer], call: Any) -> Optional[Waiting]:
 
 
 def _instrumented_later(self: Any, delay: float, f: Callable[..., Any], *args: Any, **kwargs: Any) -> Any:
+    if type(f) is Unrecorded or _is_of_reactor(sys._getframe(1)):
+        return _later(self, delay, f, *args, **kwargs)
     if watched.is_resting and watched.observer is None:
         return _later(self, delay, _Unwatched(f), *args, **kwargs)
     watcher = observer_of("clock") if observers_on else None
@@ -74,11 +97,16 @@ def _instrumented_later(self: Any, delay: float, f: Callable[..., Any], *args: A
         return tried[-1].begin(delay, functools.partial(_instrumented_later, self, delay, f, *args, **kwargs))
     own = own_call(watcher, f) if watcher.acting else None
     if own is not None:
-        return _schedule_own(watcher, self, delay, own, functools.partial(f, *args, **kwargs))
+        return _schedule_own(watcher, self, delay, own, functools.partial(f, *args, **kwargs), f)
     if watcher.quiet:
         watcher.problem("a delayed call from inside Twisted", "clock")
         return _later(self, delay, f, *args, **kwargs)
     return _act_later(watcher, self, delay, f, args, kwargs)
+
+
+def _is_of_reactor(frame: FrameType) -> bool:
+    """Whether a reactor schedules something by itself, where this is the frame that has called the instrument."""
+    return frame.f_code.co_filename == _ASYNCIO and frame.f_back is not None and frame.f_back.f_code.co_filename == _ASYNCIO
 
 
 class _Unwatched:
@@ -101,13 +129,14 @@ class _Unwatched:
         return getattr(self._f, name)
 
 
-def _schedule_own(watcher: Observer, reactor: Any, delay: float, own: Own, call: Callable[[], Any]) -> Any:
+def _schedule_own(watcher: Observer, reactor: Any, delay: float, own: Own, call: Callable[[], Any], given: Callable[..., Any]) -> Any:
     """Twisted schedules something of its own."""
     pace: Pace = watcher.pace
     waiting = own.wait(pace, delay)
     own.note(waiting.delay)
     watcher.tell(*own.line, waiting.due)
-    made = schedule_waiting(watcher, reactor, delay, waiting, call)
+    made = _later(reactor, delay, _waiting_call(watcher, waiting, call, given))
+    _keep_waiting(watcher, made, waiting)
     pace.align(waiting, made)
     return made
 
@@ -209,9 +238,9 @@ def _instrumented_turn(self: Any) -> None:
 
 
 def _instrumented_insert(self: Any) -> None:
-    """The reactor does this right before it looks what is due."""
+    """The reactor does this right before it looks what is due, and where it asks how long it may sleep."""
     _insert(self)
-    if observers_on:
+    if observers_on and sys._getframe(1).f_code is RUN:
         watcher = observer_of("clock")
         if watcher is not None and watcher.clock is self:
             watcher.pace.look()

@@ -11,7 +11,20 @@ from twisted.internet import base, task
 _STANDS_FOR = "_dv_stands_for"
 
 #: the code objects of the functions of Twisted that call what is due. (To find a code by its value takes Python long.)
-_ADVANCE, _RUN = task.Clock.advance.__code__, base.ReactorBase.runUntilCurrent.__code__
+_ADVANCE, RUN = task.Clock.advance.__code__, base.ReactorBase.runUntilCurrent.__code__
+
+
+class Unrecorded:
+    """A function of Twisted's own that a reactor is asked to call, which isn't recorded as a delayed call of the program's."""
+
+    __slots__ = ("_call", "stands_for")
+
+    def __init__(self, call: Callable[[], Any], stands_for: Callable[..., Any]) -> None:
+        self._call = call
+        self.stands_for = stands_for
+
+    def __call__(self) -> Any:
+        return self._call()
 
 
 def stand_for(telling: Callable[..., Any], function: Callable[..., Any]) -> None:
@@ -31,10 +44,12 @@ class _Function:
             function = call.__dict__.get("func", self)
             if function is self:
                 raise AttributeError(f"{type(call).__name__!r} object has no attribute 'func'") from None
-        if type(function) is not FunctionType:
+        if type(function) is not FunctionType and type(function) is not Unrecorded:
             return function
         code = sys._getframe(1).f_code
-        return function if code is _ADVANCE or code is _RUN else function.__dict__.get(_STANDS_FOR, function)
+        if code is _ADVANCE or code is RUN:
+            return function
+        return function.stands_for if type(function) is Unrecorded else function.__dict__.get(_STANDS_FOR, function)
 
     def __set__(self, call: Any, function: Any) -> None:
         call._dv_func = function

@@ -49,7 +49,7 @@ class _Timing:
         self._action[2] = waiting.delay
         watcher.tell("later timeout ", record, " ", waiting.due)
         due = functools.partial(_run_due, watcher, record, None, f)
-        return schedule_waiting(watcher, self._clock, delay, waiting, due)
+        return schedule_waiting(watcher, self._clock, delay, waiting, due, f)
 
 
 def _run_due(

@@ -28,8 +28,11 @@ def program() -> Optional[Program]:
         return None
 
 
-def agreement(said: Said, asked: Optional[Program]) -> Agreement:
-    """What the program prints for the script, compared with the script's journal as real Twisted gave it."""
+def agreement(said: Said, asked: Optional[Program], is_whole: bool) -> Agreement:
+    """What the program prints for the script, compared with the script's journal as real Twisted gave it.
+
+    `is_whole`: the script is of the whole run of a program that has ended by itself.
+    """
     name = as_called("./deferreds")
     if asked is None:
         return Agreement(False, f"not compared, since {name} isn't here")
@@ -43,7 +46,7 @@ def agreement(said: Said, asked: Optional[Program]) -> Agreement:
         return Agreement(False, f"not compared: {answer.errors.strip() or 'no answer'}")
     first = compared(answer, Answer(0, said.output, ""))
     if first is None:
-        return Agreement(False, f"{name} prints the same, line for line")
+        return Agreement(False, f"{name} prints the same" + (", line for line" if is_whole else " up to there"))
     line, mine, other = first
     before = [entry for place, entry in said.quirks if place < line]
     if before:

@@ -13,13 +13,13 @@ import unittest
 from types import FunctionType, MethodType
 from typing import Any, Callable, Dict, Optional
 
-from twisted.internet import base
 from twisted.internet.defer import Deferred
 from twisted.python.failure import Failure
 from twisted.trial.unittest import TestCase
 
 from ..instruments import install
 from ..instruments.maybe import making
+from ..instruments.pace import loop_of
 from ..telling import Watching, is_deferred, watched
 from .hiding import SECRETS
 from .programs import PrintingNotes
@@ -239,7 +239,7 @@ class _Given:
             from twisted.internet import reactor as installed
 
             reactor: Any = installed
-            base.ReactorBase.callFromThread(reactor, self._tell, value)
+            type(reactor).callFromThread(reactor, self._tell, value)
         else:
             self._tell(value)
 
@@ -271,8 +271,10 @@ def _call_first(call: Callable[[], None]) -> None:
     from twisted.internet import reactor as installed
 
     reactor: Any = installed
-    queue = getattr(reactor, "threadCallQueue", None)
-    if isinstance(queue, list):
+    loop, queue = loop_of(reactor), getattr(reactor, "threadCallQueue", None)
+    if loop is not None:
+        loop.call_soon(call)
+    elif isinstance(queue, list):
         queue.insert(0, (call, (), {}))
         reactor.wakeUp()
     else:

@@ -17,10 +17,11 @@ from twisted import logger
 from twisted.internet import base, defer, task, threads
 from twisted.python import context, failure, log
 
+from ..instruments.reactors import LOOPS
 from ..telling import is_dead_reference, looked_round, looked_round_names, switches
 
 #: the files of Twisted's code that runs actions
-_ACTING = {module.__file__ for module in (base, defer, task, threads, context, failure)}
+_ACTING = {*LOOPS, *(module.__file__ for module in (base, defer, task, threads, context, failure))}
 _MODULES = {module.__name__ for module in (base, defer, task)}
 #: the folders of what watches Twisted, and of Twisted's logger
 _WATCHING = os.path.dirname(os.path.dirname(__file__)) + os.sep

@@ -4,6 +4,7 @@ from __future__ import annotations
 
 import enum
 import platform
+import signal
 from typing import Any, Dict, Optional, Sequence
 
 import twisted
@@ -94,7 +95,8 @@ class Keeping:
             self.messages.say(f"further Cooperators can't be recorded as events: {hindrance}")
 
     def _write(self, said: Said, how: str, earlier: int) -> Status:
-        agreed = agreement(said, self._asked)
+        until = _cut_by(how)
+        agreed = agreement(said, self._asked, said.is_whole and not until)
         files: Dict[str, str] = {}
         if agreed.is_wrong:
             files[".journal"] = said.whole_output
@@ -106,7 +108,7 @@ class Keeping:
         written = self._write_files(files, self._facts(said, how, earlier, agreed.text), counts)
         if not written.is_any:
             return Status.NOT_WRITTEN
-        self._tell(said, written.name, agreed)
+        self._tell(said, written.name, agreed, until)
         if agreed.is_wrong or said.is_cut:
             return Status.REFUSED
         return Status.NOT_WRITTEN if written.failures else Status.RECORDED
@@ -148,7 +150,7 @@ class Keeping:
             **({"tick": said.tick} if said.tick else {}),
         }
 
-    def _tell(self, said: Said, name: str, agreed: Agreement) -> None:
+    def _tell(self, said: Said, name: str, agreed: Agreement, until: str) -> None:
         for entry in sorted({entry.value for _, entry in said.quirks}):
             self.messages.say(f"Twisted does here what docs/TWISTED.md says of {entry}")
         if said.unnamed:
@@ -158,6 +160,7 @@ class Keeping:
         if said.elsewhere:
             self.messages.say(f"left out: {several(said.elsewhere, 'Deferred', 'Deferreds')} of other threads")
         lines, deferreds = several(len(said.journal), "line", "lines"), several(len(said.records), "Deferred", "Deferreds")
+        deferreds += f", until {until}" if until else ""
         if agreed.is_wrong:
             self.messages.say(f"{name}.journal: {lines}, {deferreds}. No script is left: it would be wrong, since {agreed.text}")
             return
@@ -172,6 +175,13 @@ class Keeping:
 def _reasons(problems: Sequence[Problem]) -> str:
     """Why there is no script, or none of the whole run; nothing, where there are no problems."""
     return "; ".join(dict.fromkeys(problem.reason for problem in problems))
+
+
+def _cut_by(how: str) -> str:
+    """What has ended a run, where that isn't the program itself: it may have hung, or have had more to do."""
+    if how == f"status {-signal.SIGINT}":
+        return "Ctrl-C"
+    return how.split()[-1] if how.startswith(("SIG", "asked by ")) else ""
 
 
 def _beginning(said: Said) -> str:

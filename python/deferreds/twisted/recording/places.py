@@ -9,6 +9,7 @@ import os
 import re
 import sys
 import sysconfig
+from asyncio import base_events
 from types import CodeType, FrameType
 from typing import Any, Dict, Iterable, Iterator, List, Optional, Set, Tuple
 
@@ -16,6 +17,7 @@ import twisted
 from twisted.internet import base, defer, task, threads
 from twisted.python import context, failure
 
+from ..instruments.reactors import LOOPS
 from ..telling import Thing
 
 #: a function, and the code and the instruction of it, if it isn't Twisted's. What line that is is worked out where it is asked for,
@@ -28,7 +30,7 @@ _LONGEST = 24
 _INNER = {"<listcomp>", "<genexpr>", "<dictcomp>", "<setcomp>"}
 
 #: the files whose code is no program's
-_OWN = {module.__file__ for module in (base, defer, task, threads, context, failure)}
+_OWN = {*LOOPS, *(module.__file__ for module in (base, defer, task, threads, context, failure))}
 #: the folder of what watches Twisted, as code objects name it: a link on the way to it stays one
 _PACKAGE = os.path.dirname(os.path.dirname(__file__)) + os.sep
 
@@ -59,23 +61,24 @@ def _is_library(file: str) -> bool:
     return False
 
 
-_REACTOR = str(base.__file__)
+#: the files of the loops that run what is due
+_RUNNING = {str(base.__file__), base_events.__file__}
 
 
 class _OwnFiles(Dict[str, bool]):
-    """Whether files are the program's own. That of the reactor counts as one: what is round it has only begun to run it."""
+    """Whether files are the program's own. That of a reactor's loop counts as one: what is round it has only begun to run it."""
 
     def __missing__(self, file: str) -> bool:
-        found = file == _REACTOR or (_FILES[file] and not file.startswith("<") and not _is_library(file))
+        found = file in _RUNNING or (_FILES[file] and not file.startswith("<") and not _is_library(file))
         self[file] = found
         if not found:
             _other_files.add(file)
-        elif file != _REACTOR:
+        elif file not in _RUNNING:
             _own_files.add(file)
         return found
 
 
-#: those that were met and are the program's own, without that of the reactor, and those that aren't. (To ask a set takes Python less
+#: those that were met and are the program's own, without those of loops, and those that aren't. (To ask a set takes Python less
 #: long.)
 _own_files: Set[str] = set()
 _other_files: Set[str] = set()
@@ -183,7 +186,7 @@ class Spots:
         """
         noted = self._noted
         for at in range(0, len(noted), 3):
-            if noted[at + 1].co_filename != _REACTOR:
+            if noted[at + 1].co_filename not in _RUNNING:
                 yield noted[at], self._path(noted[at + 1]), line_of(noted[at + 1], noted[at + 2])
         for record, spot_ in made:
             code = spot_[1] if spot_ is not None else None
