@@ -319,7 +319,7 @@ class Command(unittest.TestCase):
                 (("-m", "nosuch"), 66),
                 (("-m", "nosuch.below"), 66),
                 (("--test", "nosuch.Case.test"), 66),
-                (("-o", "nosuch/name", "program.py"), 73),
+                (("-o", "program.py/name", "program.py"), 73),
             )
             for words, expected in cases:
                 with self.subTest(words=words):

@@ -20,6 +20,7 @@ from ..profile import Entry
 from ..script import nodes
 from ..telling import Action, Advance, Begun, Ended, Failed, Part, Record, Thing, Time
 from ..texts import Outcome, Text, compact
+from .again import hide_again
 from .alike import Alike, exact, first_body, first_record
 from .bodies import Body, Run, Steps, Unsayable, bodies_of, deepest, in_words
 from .declaring import MOST_OF_EVENT, Declared
@@ -53,6 +54,7 @@ class Said:
 
     def __init__(self, recorder: Recorder, ended: Optional[int] = None) -> None:
         """`ended`: how many events of the program have ended; those after them aren't part of the script. None: all have."""
+        hide_again(recorder)
         self._recorder = recorder
         self._scale = 1
         self.problems: List[Problem] = []
