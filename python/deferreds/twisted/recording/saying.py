@@ -6,7 +6,7 @@ A run may be longer than a script can be, or end in the midst of an event. Then 
 from __future__ import annotations
 
 import math
-from bisect import bisect_left
+from bisect import bisect_left, bisect_right
 from fractions import Fraction
 from itertools import accumulate, compress, count
 from typing import Any, Dict, Iterator, List, Optional, Sequence, Set, Tuple, Union
@@ -55,7 +55,7 @@ class Said:
     def __init__(self, recorder: Recorder, ended: Optional[int] = None) -> None:
         """`ended`: how many events of the program have ended; those after them aren't part of the script. None: all have."""
         hide_again(recorder)
-        self._recorder = recorder
+        self._recorder = self._whole = recorder
         self._scale = 1
         self.problems: List[Problem] = []
         #: why further Cooperators aren't in the script, where it is of a run that has some
@@ -127,6 +127,22 @@ class Said:
     def is_empty(self) -> bool:
         """Whether nothing has happened, but that time went on."""
         return all(isinstance(action, Advance) for action in self.actions) and not self.records
+
+    def before(self, line: int, why: str) -> Optional[Said]:
+        """The same run, whose script ends before the event that has this line of the journal, from 1, and why; None if no event is left.
+
+        This one isn't used any more.
+        """
+        place = min(bisect_right(self.begins, line - 1), self.events) - 1
+        ended = max((count for count in range(self._ended + 1) if self._counted(count) <= self._places[max(place, 0)]), default=0)
+        self._declared.forget()
+        shorter = Said(self._whole, ended)
+        if place <= 0 or shorter.script is None or not 0 < shorter.events < self.events:
+            return None
+        problem = Problem(why, "", None)
+        shorter.too_large.append(problem)
+        shorter.problems.append(problem)
+        return shorter
 
     @property
     def with_times(self) -> bool:
