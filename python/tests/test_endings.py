@@ -18,8 +18,9 @@ from twisted.internet import defer
 from deferreds.testing.folder import Folder
 from deferreds.twisted.children import MOST_BYTES
 from deferreds.twisted.instruments import install
-from deferreds.twisted.programs import Answer, Batches, Broken, Program
+from deferreds.twisted.programs import Answer, Batches, Broken, Lack, Program
 from deferreds.twisted.recording import endings
+from deferreds.twisted.recording.agreeing import Agreed, agreed
 from deferreds.twisted.recording.endings import Endings
 from deferreds.twisted.recording.files import Place
 from deferreds.twisted.recording.keeper import Keeper
@@ -29,6 +30,7 @@ from deferreds.twisted.recording.outcomes import outcomes_of
 from deferreds.twisted.recording.recorder import Recorder
 from deferreds.twisted.recording.saying import Said
 from deferreds.twisted.rows import ANY_LINES, read_rows, row_files
+from deferreds.twisted.running import be_quiet, run
 
 from .forked import Forked
 from .recording_of import RecordingCase
@@ -634,6 +636,66 @@ class Compared(RecordingCase):
         self.assertEqual(ended.status, 0, ended.said)
         self.assertIn("./deferreds prints the same up to line 2, by unpause-at-zero of docs/TWISTED.md", ended.said)
         self.assertIn("unpaused.json", self.files())
+
+
+class Behind(RecordingCase):
+    """Behind an entry of docs/TWISTED.md real Twisted is asked, which runs the script."""
+
+    #: entries that `behind_an_entry.py` comes to
+    ENTRIES = ("unpause-at-zero", "cancelled-inline", "gather-fired-by-hand", "error-leaves-advance")
+
+    def assert_printed_by_twisted(self, name: str, entry: str) -> None:
+        """Real Twisted prints the journal for the script, as a Clock does where an error ends an advance."""
+        script = (self.folder / f"{name}.json").read_bytes()
+        self.assertEqual(run(script, None, entry == "error-leaves-advance").output, self.text(f"{name}.journal"))
+
+    def test_a_run_that_real_twisted_prints_so_is_whole(self) -> None:
+        for entry in self.ENTRIES:
+            with self.subTest(entry=entry):
+                ended = self.record("-o", entry, "behind_an_entry.py", entry, "whole")
+                self.assertEqual(ended.status, 0, ended.said)
+                self.assertRegex(ended.said, f"by {entry} of docs/TWISTED.md, and real Twisted the same, line for line\n")
+                self.assertNotIn(f"{entry}.whole.journal", self.files())
+                self.assert_printed_by_twisted(entry, entry)
+
+    def test_a_run_that_it_prints_otherwise_is_cut_before_that(self) -> None:
+        for entry in self.ENTRIES:
+            with self.subTest(entry=entry):
+                ended = self.record("-o", entry, "behind_an_entry.py", entry)
+                self.assertEqual(ended.status, 0, ended.said)
+                self.assertRegex(
+                    ended.said,
+                    rf"the script is of the first \d+ of \d+ events, since behind {entry} of docs/TWISTED.md real Twisted prints line \d+ "
+                    r"otherwise: refuse #\d and not fire #\d ok 2; ",
+                )
+                self.assertIn(" ok 2\n", self.text(f"{entry}.whole.journal"))
+                self.assertNotIn(" ok 2\n", self.text(f"{entry}.journal"))
+                self.assert_printed_by_twisted(entry, entry)
+
+    def agreed(self, judge: Optional[Program]) -> Agreed:
+        """How a run goes together with its journal that comes to an entry in its second event, by a judge in the place of real Twisted."""
+        be_quiet()
+        install()
+        recorder = Recorder()
+        with recorder.watching():
+            defer.succeed(1)
+            defer.Deferred().unpause()
+            defer.succeed(2)
+        self.said = Said(recorder)
+        return agreed(self.said, Fixed(Answer(0, run(self.said.text.encode()).output.replace("fire #2", "unpause #1\nfire #2"), "")), twisted=lambda _: judge)
+
+    def test_a_run_of_which_nothing_is_left_has_no_script(self) -> None:
+        said, agreement = self.agreed(Fixed(Answer(0, "new #0 other\n", "")))
+        self.assertEqual((said, agreement.is_wrong), (self.said, True))
+        self.assertRegex(agreement.text, "^behind unpause-at-zero of docs/TWISTED.md real Twisted prints line 1 otherwise: new #0 other and not new #0 ")
+
+    def test_where_real_twisted_gives_no_answer_nothing_behind_the_entry_is_kept(self) -> None:
+        for judge, why in ((Fixed(None), "it can't be run"), (Fixed(Answer(-1, "", "", Lack("no answer within 5 seconds", True))), "no answer within 5")):
+            with self.subTest(why=why):
+                said, agreement = self.agreed(judge)
+                self.assertFalse(said.is_whole)
+                self.assertLess(said.events, len(said.begins))
+                self.assertRegex(said.too_large[-1].reason, f"^behind unpause-at-zero of docs/TWISTED.md nothing is compared, .*{why}")
 
 
 class Outcomes(unittest.TestCase):

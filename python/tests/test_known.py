@@ -25,9 +25,9 @@ WORDS = {
     "conform": ["--rows", "--", "false"],
     "measure": [],
     "on_twisted": [],
-    "record": ["-o", "/nowhere/run", __file__],
+    "record": ["-o", "/dev/null/run", __file__],
     "recorded_rows": ["--check"],
-    "trial": ["--deferreds-record", "/nowhere/run", __name__],
+    "trial": ["--deferreds-record", "/dev/null/run", __name__],
 }
 
 #: has commands be run where something is otherwise in Twisted, and prints how each has ended

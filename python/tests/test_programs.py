@@ -225,6 +225,15 @@ class Programs(unittest.TestCase):
             self.assertNotIn(word, shown["all"])
         self.assert_right(record("secrets", redact="all").said)
 
+    def test_a_secret_is_hidden_before_it_is_known_and_after_that(self) -> None:
+        ran = record("secrets_again")
+        self.assert_right(ran.said)
+        for text in (ran.said.text, ran.said.whole_output, ran.said.places or ""):
+            self.assertNotIn("Hq7hZ2mWx9", text)
+        self.assertIn("Hq7hZ2mWx9", record("secrets_again", redact="none").said.output)
+        self.assertIn('fire #0 ok "<secret_', ran.said.output)
+        self.assertIn("/users/<secret_", ran.said.output)
+
     def test_a_delayed_call_has_the_function_of_the_program(self) -> None:
         self.assertEqual(record("call_function").printed, "True True {'value': 1} True\nFalse\n")
 

@@ -223,8 +223,9 @@ _Running = Generator[Deferred[Any], Any, Optional[_Leaving]]
 class Player:
     """Performs a script on real Twisted. `batches` are the posts that each drain takes, and those at the end."""
 
-    def __init__(self, script: Script, batches: Optional[Batches] = None) -> None:
+    def __init__(self, script: Script, batches: Optional[Batches] = None, errors_end_advances: bool = False) -> None:
         self.script = script
+        self._errors_end_advances = errors_end_advances
         self.teller = Teller(script.limit, script.root["version"])
         for name, parent in script.classes:
             self.teller.classes.declare(name, parent)
@@ -599,7 +600,7 @@ class Player:
         self._thing("call", action[1]).delay(action[2])
 
     def _advance(self, action: List[Any], here: Optional[Deferred[Any]]) -> None:
-        """Time goes on. As a reactor does, this goes on after an error that leaves a delayed call."""
+        """Time goes on. As a reactor does, this goes on after an error that leaves a delayed call, unless that is to end it."""
         advance: Callable[[], object] = lambda: self.clock.advance(action[1])
         while True:
             try:
@@ -610,6 +611,8 @@ class Player:
             except BaseException as failure:
                 self._go_on()
                 self.teller.tell_unhandled(failure)
+                if self._errors_end_advances:
+                    return
             advance = lambda: self.teller.act(Action(), run_due, self.clock)
 
     def _loop(self, action: List[Any], here: Optional[Deferred[Any]]) -> None:
@@ -858,11 +861,12 @@ _OTHERS: Dict[str, Callable[[Player, List[Any], Optional[Deferred[Any]]], None]]
 }
 
 
-def run(data: bytes, batches: Optional[Batches] = None) -> Run:
-    """Reads a script, and runs it on real Twisted."""
+def run(data: bytes, batches: Optional[Batches] = None, errors_end_advances: bool = False) -> Run:
+    """Reads a script, and runs it on real Twisted. An error of a delayed call ends an advance, as with Twisted's Clock, only if that is
+    asked for."""
     script = read(data, list(BUILT_IN))
     install()
-    return Player(script, batches).run()
+    return Player(script, batches, errors_end_advances).run()
 
 
 def be_quiet() -> None:

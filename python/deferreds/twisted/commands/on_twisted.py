@@ -24,10 +24,10 @@ Answer = Tuple[int, bytes, bytes]
 _NOT_READ = 4
 
 
-def answer(data: bytes, batches: Optional[Batches] = None) -> Answer:
+def answer(data: bytes, batches: Optional[Batches] = None, errors_end_advances: bool = False) -> Answer:
     """The exit status for a script, and what is written to standard output and standard error."""
     try:
-        ran = run(data, batches)
+        ran = run(data, batches, errors_end_advances)
     except Refused as refused:
         return 2, b"", f"{refused}\n".encode()
     return ran.status, ran.output.encode(), b""
@@ -85,18 +85,24 @@ def _arguments(words: List[str]) -> argparse.Namespace:
         help="the posts that each drain takes, and those at the end: a JSON array of arrays of [CALLER,POST]",
     )
     parser.add_argument(
+        "--errors-end-advances",
+        action="store_true",
+        help="an error of a delayed call ends the advance that runs it, as with Twisted's Clock; without this it is logged, and the advance "
+        "goes on, as under a reactor",
+    )
+    parser.add_argument(
         "--many", action="store_true", help="answer script after script, as docs/PORTING.md says"
     )
     return parser.parse_args(words)
 
 
-def _once(batches: Optional[Batches]) -> int:
+def _once(arguments: argparse.Namespace) -> int:
     """Answers the script of standard input."""
     try:
         data = sys.stdin.buffer.read(grammar.WIDEST_BYTES + 1)
     except OSError as error:
         return _not_read(error)
-    status, output, errors = answer(data, batches)
+    status, output, errors = answer(data, arguments.batches, arguments.errors_end_advances)
     with writing():
         sys.stdout.buffer.write(output)
         sys.stdout.buffer.flush()
@@ -124,4 +130,4 @@ def main(words: List[str]) -> int:
     arguments = _arguments(words)
     be_quiet()
     install()
-    return with_room(_serve_all if arguments.many else lambda: _once(arguments.batches))
+    return with_room(_serve_all if arguments.many else lambda: _once(arguments))

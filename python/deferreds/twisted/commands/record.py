@@ -18,8 +18,9 @@ ends in the midst of an event, NAME.json is of its beginning, and NAME.whole.jou
 What was before that is forgotten. Each script begins with the Deferreds in their state at that time. Loops, delayed calls and tasks
 from before are recorded as the Python that they are made of, and so are locks and queues.
 
-If `./deferreds` is there, it runs the script, and its lines are compared with those of the run. If they differ, and docs/TWISTED.md
-has no entry for that, no script is kept.
+If `./deferreds` is there, it runs the script, and its lines are compared with those of the run. If they differ behind an entry of
+docs/TWISTED.md, real Twisted runs the script, and the script ends before the event in which it prints other lines. If they differ
+without an entry, no script is kept.
 
 The status is the program's own, and a program that is ended by a signal ends this command by it. If the program ended with status 0:
 0: recorded; 65: refused; 66: nothing was recorded; 73: a file couldn't be written. With --test the status is 1 if the test failed.

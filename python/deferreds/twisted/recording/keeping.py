@@ -15,7 +15,7 @@ from ...view.sizes import several
 from ...view.names import PLACES
 from ...view.sources import Source
 from ..programs import Program
-from .agreeing import Agreement, agreement
+from .agreeing import Agreement, agreed
 from .files import Place, Written
 from .messages import Messages
 from .recorder import Problem
@@ -96,20 +96,20 @@ class Keeping:
 
     def _write(self, said: Said, how: str, earlier: int) -> Status:
         until = _cut_by(how)
-        agreed = agreement(said, self._asked, said.is_whole and not until)
+        said, agreement = agreed(said, self._asked, not until)
         files: Dict[str, str] = {}
-        if agreed.is_wrong:
+        if agreement.is_wrong:
             files[".journal"] = said.whole_output
         else:
             files.update({".json": said.text + "\n", ".journal": said.output})
             if not said.is_whole:
                 files[".whole.journal"] = said.whole_output
-        counts = self._add_places_and_page(files, said, None if agreed.is_wrong else said.places)
-        written = self._write_files(files, self._facts(said, how, earlier, agreed.text), counts)
+        counts = self._add_places_and_page(files, said, None if agreement.is_wrong else said.places)
+        written = self._write_files(files, self._facts(said, how, earlier, agreement.text), counts)
         if not written.is_any:
             return Status.NOT_WRITTEN
-        self._tell(said, written.name, agreed, until)
-        if agreed.is_wrong or said.is_cut:
+        self._tell(said, written.name, agreement, until)
+        if agreement.is_wrong or said.is_cut:
             return Status.REFUSED
         return Status.NOT_WRITTEN if written.failures else Status.RECORDED
 
@@ -150,7 +150,7 @@ class Keeping:
             **({"tick": said.tick} if said.tick else {}),
         }
 
-    def _tell(self, said: Said, name: str, agreed: Agreement, until: str) -> None:
+    def _tell(self, said: Said, name: str, agreement: Agreement, until: str) -> None:
         for entry in sorted({entry.value for _, entry in said.quirks}):
             self.messages.say(f"Twisted does here what docs/TWISTED.md says of {entry}")
         if said.unnamed:
@@ -161,15 +161,15 @@ class Keeping:
             self.messages.say(f"left out: {several(said.elsewhere, 'Deferred', 'Deferreds')} of other threads")
         lines, deferreds = several(len(said.journal), "line", "lines"), several(len(said.records), "Deferred", "Deferreds")
         deferreds += f", until {until}" if until else ""
-        if agreed.is_wrong:
-            self.messages.say(f"{name}.journal: {lines}, {deferreds}. No script is left: it would be wrong, since {agreed.text}")
+        if agreement.is_wrong:
+            self.messages.say(f"{name}.journal: {lines}, {deferreds}. No script is left: it would be wrong, since {agreement.text}")
             return
         if said.is_whole:
-            self.messages.say(f"{name}.json and {name}.journal: {lines}, {deferreds}; {agreed.text}")
+            self.messages.say(f"{name}.json and {name}.journal: {lines}, {deferreds}; {agreement.text}")
             return
         lacks = ". It may lack what is refused" if said.is_cut else ""
         self.messages.say(f"{name}.whole.journal: {lines}, {deferreds}{lacks}")
-        self.messages.say(f"{name}.json and {name}.journal: {_beginning(said)}; {agreed.text}")
+        self.messages.say(f"{name}.json and {name}.journal: {_beginning(said)}; {agreement.text}")
 
 
 def _reasons(problems: Sequence[Problem]) -> str:

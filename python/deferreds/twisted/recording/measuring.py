@@ -8,6 +8,7 @@ from typing import Counter, Dict, List, NamedTuple, Optional
 
 from ..comparing import compared
 from ..programs import Answer, Program
+from .agreeing import judged_by_twisted
 from .case import TestRun, record_test
 from .programs import LADDER, tests_of
 from .saying import Said
@@ -64,6 +65,9 @@ def _attempt(run: TestRun, ours: Program) -> Attempt:
         return Attempt(said, None, None)
     line, mine, other = first
     before = [entry for place, entry in said.quirks if place < line]
+    judged = judged_by_twisted(said, before) if before else None
+    if judged is not None:
+        return Attempt(said, f"behind {before[-1].value}, {judged.text}", None)
     return Attempt(said, f"line {line}: {mine} | {other}", before[-1].value if before else None)
 
 

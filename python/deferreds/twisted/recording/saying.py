@@ -20,6 +20,7 @@ from ..profile import Entry
 from ..script import nodes
 from ..telling import Action, Advance, Begun, Ended, Failed, Part, Record, Thing, Time
 from ..texts import Outcome, Text, compact
+from .again import hide_again
 from .alike import Alike, exact, first_body, first_record
 from .bodies import Body, Done, Run, Steps, Unsayable, bodies_of, deepest, in_words
 from .declaring import MOST_OF_EVENT, Declared
@@ -57,7 +58,8 @@ class Said:
 
     def __init__(self, recorder: Recorder, ended: Optional[int] = None) -> None:
         """`ended`: how many events of the program have ended; those after them aren't part of the script. None: all have."""
-        self._recorder = recorder
+        hide_again(recorder)
+        self._recorder = self._whole = recorder
         self._scale = 1
         self.problems: List[Problem] = []
         #: why further Cooperators aren't in the script, where it is of a run that has some
@@ -140,6 +142,22 @@ class Said:
     def is_empty(self) -> bool:
         """Whether nothing has happened, but that time went on."""
         return all(isinstance(action, Advance) for action in self.actions) and not self.records
+
+    def before(self, line: int, why: str) -> Optional[Said]:
+        """The same run, whose script ends before the event that has this line of the journal, from 1, and why; None if no event is left.
+
+        This one isn't used any more.
+        """
+        place = min(bisect_right(self.begins, line - 1), self.events) - 1
+        ended = max((count for count in range(self._ended + 1) if self._counted(count) <= self._places[max(place, 0)]), default=0)
+        self._declared.forget()
+        shorter = Said(self._whole, ended)
+        if place <= 0 or shorter.script is None or not 0 < shorter.events < self.events:
+            return None
+        problem = Problem(why, "", None)
+        shorter.too_large.append(problem)
+        shorter.problems.append(problem)
+        return shorter
 
     @property
     def with_times(self) -> bool:

@@ -19,6 +19,8 @@ from .hiding import Hiding
 
 #: the most characters, bytes or digits of a text that are shown in full, and how many are shown of a longer one
 LONGEST, SHOWN = 200, 100
+#: in how many of the first characters or bytes of a longer text secrets are looked for
+LOOKED = 16_384
 #: the most values of which one is shown in full, how deep, and how many items are shown of each list of a larger one
 MOST, DEEPEST, FIRST = 200, 20, 10
 
@@ -57,7 +59,7 @@ class Values(Texts):
     def __init__(self, classes: Classes, ask: Callable[[Callable[[], Any]], Any], hiding: Hiding) -> None:
         super().__init__(classes)
         self._ask = ask
-        self._hiding = hiding
+        self._hiding = self.hiding = hiding
         #: whether those that aren't too large are shown as they are
         self._shows_integers = not hiding.hides_all
         self._whole: Dict[type, _Leaf] = {}
@@ -170,9 +172,14 @@ class Values(Texts):
         if self._hiding.hides_all:
             return self._hiding.value(plain)
         if len(plain) <= LONGEST:
-            return self._hiding.text(f"<bytes {bytes.__repr__(plain)}>")
-        begin = self._hiding.text(bytes.__repr__(plain[: 2 * SHOWN]))[: SHOWN + 2]
+            return f"<bytes {self._repr(plain)}>"
+        begin = self._repr(plain[:LOOKED])[: SHOWN + 2]
         return f"<bytes {begin}'.. of {len(plain):,}, {_digest(plain)}>"
+
+    def _repr(self, plain: bytes) -> str:
+        """Bytes as Python writes them, without their secrets."""
+        text = bytes.decode(plain, "latin-1")
+        return repr(self._hiding.text(text).encode("latin-1"))
 
     def _number(self, value: Any) -> str:
         plain = float.__repr__(value) if float in type(value).__mro__ else complex.__repr__(value)
@@ -186,7 +193,7 @@ class Values(Texts):
         plain = clean(text)
         if len(plain) <= LONGEST:
             return self._hiding.text(plain)
-        begin = self._hiding.text(plain[: 2 * SHOWN])[:SHOWN]
+        begin = self._hiding.text(plain[:LOOKED])[:SHOWN]
         return f"{begin}.. <{len(plain):,} characters, {_digest(plain.encode('utf-8'))}>"
 
     def note(self, text: str) -> str:
@@ -295,11 +302,26 @@ class _Full:
         return self.items(base.__getitem__(value, slice(None)), depth)
 
     def items(self, items: Any, depth: int) -> List[Shown]:
-        """Items of a list, of two of which the first may say that the second is a secret."""
-        if len(items) == 2 and type(items[0]) is str and self.hiding.names_secret(items[0]):
-            secret = items[1] if type(items[1]) is str else compact(self.item(items[1], depth))
-            return [self.item(items[0], depth), self.hiding.secret(secret)]
-        return [self.item(item, depth) for item in items]
+        """Items of a list, each of which may say that the next one is a secret: the first of two, and an option of a command."""
+        if not self.hiding.hides_secrets:
+            return [self.item(item, depth) for item in items]
+        told: List[Shown] = []
+        is_pair = len(items) == 2
+        is_secret = False
+        for item in items:
+            told.append(self._hidden(item, depth) if is_secret else self.item(item, depth))
+            is_secret = type(item) in _TEXTS and (is_pair or item[:1] in ("-", b"-")) and self.hiding.names_secret(item)
+        return told
+
+    def _hidden(self, value: Any, depth: int) -> Shown:
+        """A value that is a secret, and the texts that it holds."""
+        if type(value) in _TEXTS:
+            return self.hiding.secret(value if type(value) is str else bytes.decode(value, "latin-1"))
+        if type(value) in (list, tuple):
+            for item in value[:FIRST]:
+                if type(item) in _TEXTS:
+                    self._hidden(item, depth)
+        return self.hiding.secret(compact(self.item(value, depth)))
 
     def item(self, item: Any, depth: int) -> Shown:
         """An item of a list."""
@@ -334,6 +356,7 @@ class _Brief(_Full):
 
 
 #: classes of which it is known
+_TEXTS = frozenset({str, bytes})
 _NO_LISTS = frozenset({int, str, bool, type(None), float, bytes, dict, Failure})
 
 
