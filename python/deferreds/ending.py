@@ -48,16 +48,25 @@ def open_streams() -> None:
         sys.stderr = os.fdopen(os.open(os.devnull, os.O_WRONLY), "w")
 
 
+class ProgramStatus(int):
+    """The status of a program of the user's, that a command has run. It is below 0 if the program was ended by this signal."""
+
+
 def ended(main: Callable[[], int], name: str) -> int:
     """The status of the command of this name.
 
-    Ctrl-C ends the process by its signal, and a closed pipe ends it without a word, as `| head` expects.
+    Ctrl-C ends the process by its signal, and a closed pipe ends it without a word, as `| head` expects. The standard streams of a program
+    of the user's are left to Python, which ends as if it had run the program itself.
     """
+    is_program = False
     try:
         try:
             status = main()
         except SystemExit as exit_:
             status = exit_.code if isinstance(exit_.code, int) else int(exit_.code is not None)
+        is_program = isinstance(status, ProgramStatus)
+        if is_program:
+            return _ended_program(status)
         if sys.stdout is not None:
             with writing():
                 sys.stdout.flush()
@@ -73,11 +82,31 @@ def ended(main: Callable[[], int], name: str) -> int:
         import signal
 
         # a shell sees by the signal that it was Ctrl-C; threads that still run aren't waited for
-        signal.signal(signal.SIGINT, signal.SIG_DFL)
-        os.kill(os.getpid(), signal.SIGINT)
-        return 128 + signal.SIGINT
+        return _end_by(signal.SIGINT)
     finally:
-        _flush_errors()
+        if not is_program:
+            _flush_errors()
+
+
+def _ended_program(status: int) -> int:
+    """The status of a program. One that was ended by a signal ends this process by it, when Python has written what it printed."""
+    if status >= 0:
+        return status
+    for stream in (sys.stdout, sys.stderr):
+        try:
+            stream.flush()
+        except Exception:  # (the program may have put anything there)
+            pass
+    return _end_by(-status)
+
+
+def _end_by(number: int) -> int:
+    """Ends the process by a signal. Returns the status that a shell has for that, if it goes on."""
+    import signal
+
+    signal.signal(number, signal.SIG_DFL)
+    os.kill(os.getpid(), number)
+    return 128 + number
 
 
 def _flush_errors() -> None:

@@ -53,7 +53,7 @@ class Problem(NamedTuple):
 
 
 #: how many times as many frames a program may have on Python's stack where it is recorded
-_ROOM = 3
+STACK_ROOM = 3
 
 #: why a script can't say what the program does where it is asked for the text of an object
 ASKED = "the text of an object is worked out with more than Deferreds of its own"
@@ -105,7 +105,7 @@ class Recorder(Observer):
     frame: Run
     texts: Values
 
-    stack_room = _ROOM
+    stack_room = STACK_ROOM
     #: how many events come before those by which the runs of bodies count, and how many parts of lines before those that are noted so
     preceding = preceding_parts = 0
     #: what watches where the text of an object is asked for, once one was
