@@ -28,7 +28,7 @@ from ..telling import (
 from ..texts import NULL, Outcome, Text, compact, weight_of
 from .bodies import SHALLOW, Body, Run, Steps, Unsayable
 from .hiding import SECRETS, Hiding
-from .inside import CALLED, FINALIZED, KIND_OF_ACTION, MEDDLED, Inside, entry, is_entered, is_uncalled, worked_on
+from .inside import CALLED, KIND_OF_ACTION, MEDDLED, Inside, entry, is_entered, is_uncalled, reason_of, worked_on
 from .places import Spots, place, spot
 from .values import Values, is_member
 
@@ -130,10 +130,16 @@ class Recorder(Observer):
         self.spots = Spots()
         #: how many events have ended
         self.ended = 0
+        #: where clocks were first used that aren't that of the run
+        self.further_clocks: List[str] = []
 
     def problem(self, reason: str, kind: Optional[str] = None) -> None:
         """Notes what a script can't say."""
         self.problems.append(Problem(reason, place(), kind))
+
+    def note_further_clock(self) -> None:
+        """Notes that a clock is used which isn't that of the run."""
+        self.further_clocks.append(place().partition(" in ")[0])
 
     def place(self) -> str:
         """The place in the program."""
@@ -363,7 +369,7 @@ class Recorder(Observer):
             frame.expected, frame.anonymous, frame.passing, self._told, self.forwarded, self.turn, self.maker = kept
             if uncalled and any(part is one for part in self.parts[before:] if part is not None for one in busy):
                 self.problem(MEDDLED)
-            self._inside = Inside(len(self.parts), place(), uncalled)
+            self._inside = Inside(len(self.parts), place(), uncalled, reason_of(entered))
 
     def _known_as(self, thing: object) -> object:
         """What lines name an object by, if any do."""
@@ -377,7 +383,7 @@ class Recorder(Observer):
     def _refuse_unless_last(self, inside: Inside, raised: bool) -> None:
         """Refuses what was done inside Twisted's code, where that has gone on to tell something after it."""
         if inside.is_uncalled and (raised or inside.told < len(self.parts)):
-            self.problems.append(Problem(FINALIZED, inside.place, None))
+            self.problems.append(Problem(inside.reason, inside.place, None))
 
     def _kind_performed(self) -> Optional[str]:
         """The kind of objects to which what Twisted runs belongs."""
