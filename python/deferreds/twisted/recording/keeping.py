@@ -4,7 +4,7 @@ from __future__ import annotations
 
 import enum
 import platform
-from typing import Any, Dict, Optional
+from typing import Any, Dict, List, Optional
 
 import twisted
 
@@ -19,6 +19,10 @@ from .files import Place, Written
 from .messages import Messages
 from .recorder import Problem
 from .saying import Said
+
+
+#: how many places a message names
+_MOST_PLACES = 3
 
 
 class Status(enum.IntEnum):
@@ -148,6 +152,8 @@ class Keeping:
             self.messages.say(f"further Cooperators are recorded as events: {said.unnamed}")
         if said.tick:
             self.messages.say(f"1 tick = {said.tick}")
+        if said.further_clocks:
+            self.messages.say(_of_further_clocks(said.further_clocks))
         if said.elsewhere:
             self.messages.say(f"left out: {several(said.elsewhere, 'Deferred', 'Deferreds')} of other threads")
         lines, deferreds = several(len(said.journal), "line", "lines"), several(len(said.records), "Deferred", "Deferreds")
@@ -159,6 +165,13 @@ class Keeping:
             return
         self.messages.say(f"{name}.whole.journal: {lines}, {deferreds}")
         self.messages.say(f"{name}.json and {name}.journal: {_beginning(said)}; {agreed.text}")
+
+
+def _of_further_clocks(places: List[str]) -> str:
+    """That clocks have no times in a recording, which were first used at these places."""
+    shown = ", ".join([*dict.fromkeys(places[:_MOST_PLACES]), *([".."] if len(places) > _MOST_PLACES else [])])
+    whose = "its" if len(places) == 1 else "their"
+    return f"no times for {several(len(places), 'further clock', 'further clocks')} ({shown}): {whose} calls are recorded as events"
 
 
 def _beginning(said: Said) -> str:
