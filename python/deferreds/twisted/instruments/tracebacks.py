@@ -1,4 +1,4 @@
-"""Tracebacks and stacks without the frames of what watches: a recorded program shows the ones that it has by itself.
+"""Tracebacks, stacks and warnings without the frames of what watches: a recorded program shows the ones that it has by itself.
 
 An error of what watches itself, whose innermost frame is one of its own, is shown whole.
 """
@@ -12,6 +12,7 @@ import os
 import sys
 import threading
 import traceback
+import warnings
 from types import CodeType, FrameType, TracebackType
 from typing import Any, Callable, Dict, Iterable, Iterator, List, Optional, Set, Tuple
 
@@ -27,7 +28,11 @@ _EXTRACTS = next(
     name for name in ("_extract_from_extended_frame_gen", "extract") if hasattr(traceback.StackSummary, name)
 )
 
+#: more levels than a stack has
+_BEYOND = 1 << 30
+
 _outer_frames: Callable[..., List[Any]] = inspect.getouterframes
+_warn: Callable[..., None] = warnings.warn
 _init: Callable[..., None] = Failure.__init__
 _extract: Callable[..., Any] = getattr(traceback.StackSummary, _EXTRACTS).__func__
 
@@ -132,12 +137,24 @@ def _show_without_own_frames(module: Any, name: str) -> None:
         hook(given if trace is None else type(given)([unlink(trace) if part is trace else part for part in given]))
 
     setattr(module, name, shows)
+    setattr(module, f"__{name}__", shows)
+
+
+def _instrumented_warn(message: Any, category: Any = None, stacklevel: int = 1, source: Any = None, **options: Any) -> None:
+    """Warns of a line of a caller, as if what watches weren't among the callers."""
+    level, left, frame = 2, stacklevel - 1, sys._getframe(1).f_back
+    while left > 0 and frame is not None and id(frame) not in _outside:
+        level += 1
+        left -= not _is_own(frame.f_code.co_filename)
+        frame = frame.f_back
+    _warn(message, category, level if left <= 0 else _BEYOND, source, **options)
 
 
 def install() -> None:
     """Puts the instrument into Failure, and into Python's modules for tracebacks and stacks."""
     _show_without_own_frames(sys, "unraisablehook")
     _show_without_own_frames(threading, "excepthook")
+    setattr(warnings, "warn", functools.wraps(_warn)(_instrumented_warn))
     setattr(inspect, "getouterframes", functools.wraps(_outer_frames)(_instrumented_outer_frames))
     setattr(Failure, "__init__", _instrumented_init)
     setattr(traceback.StackSummary, _EXTRACTS, classmethod(functools.wraps(_extract)(_instrumented_extract)))
