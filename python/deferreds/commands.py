@@ -5,7 +5,7 @@ from __future__ import annotations
 import importlib
 import importlib.util
 import sys
-from typing import List
+from typing import Callable, List
 
 from .checkout import command_name
 from .ending import ended, open_streams
@@ -45,7 +45,8 @@ def run_on_twisted(name: str, words: List[str]) -> int:
         if importlib.util.find_spec("twisted") is not None:
             refuse_unusable()
         module = importlib.import_module(f".twisted.commands.{name}", __package__)
-        return ended(lambda: int(module.main(words)), command_name(name))
+        main: Callable[[List[str]], int] = module.main
+        return ended(lambda: main(words), command_name(name))
     except UnknownTwisted as unknown:
         why = str(unknown)
     except ModuleNotFoundError as error:

@@ -120,11 +120,17 @@ def run_command(main: Callable[[], int], name: str) -> NoReturn:
     sys.exit(ended(main, name))
 
 
+class ProgramStatus(int):
+    """The status of a program of the user's, that a command has run. It is below 0 if the program was ended by this signal."""
+
+
 def ended(main: Callable[[], int], name: str) -> int:
     """The status of the command of this name.
 
-    Ctrl-C ends the process by its signal, and a closed pipe ends it without a word, as `| head` expects.
+    Ctrl-C ends the process by its signal, and a closed pipe ends it without a word, as `| head` expects. The standard streams of a program
+    of the user's are left to Python, which ends as if it had run the program itself.
     """
+    is_program = False
     try:
         try:
             status = main()
@@ -132,6 +138,9 @@ def ended(main: Callable[[], int], name: str) -> int:
             status = exit_.code if isinstance(exit_.code, int) else int(exit_.code is not None)
             if isinstance(exit_.code, str):
                 say(exit_.code)
+        is_program = isinstance(status, ProgramStatus)
+        if is_program:
+            return _ended_program(status)
         if sys.stdout is not None:
             with writing():
                 sys.stdout.flush()
@@ -150,11 +159,27 @@ def ended(main: Callable[[], int], name: str) -> int:
     except Stopped as stopped:
         return _end_by(stopped.number)
     finally:
-        _flush_errors()
+        if not is_program:
+            _flush_errors()
+
+
+def _ended_program(status: int) -> int:
+    """The status of a program. One that was ended by a signal ends this process by it, when Python has written what it printed."""
+    if status >= 0:
+        return status
+    for stream in (sys.stdout, sys.stderr):
+        try:
+            stream.flush()
+        except Exception:  # (the program may have put anything there)
+            pass
+    return _end_by(-status)
 
 
 def _end_by(number: int) -> int:
-    """Ends the process by a signal: a shell sees by it that it was Ctrl-C, say. Threads that still run aren't waited for."""
+    """Ends the process by a signal: a shell sees by it that it was Ctrl-C, say. Threads that still run aren't waited for.
+
+    Returns the status that a shell has for that, if the process goes on.
+    """
     import signal
 
     signal.signal(number, signal.SIG_DFL)

@@ -12,6 +12,8 @@ from twisted.internet.defer import Deferred
 from twisted.python.failure import Failure
 
 from deferreds.twisted.instruments import install
+from deferreds.twisted.recording.hiding import SECRETS
+from deferreds.twisted.recording.last import LastRecorder
 from deferreds.twisted.recording.recorder import Recorder
 from deferreds.twisted.running import be_quiet
 from deferreds.twisted.telling import KINDS
@@ -362,17 +364,21 @@ class Dropped(unittest.TestCase):
         self.addCleanup(gc.enable)
         self.addCleanup(gc.unfreeze)
 
-    def assert_dies(self, kinds: frozenset[str]) -> None:
-        """Each dies under a recorder that records these kinds as such as it dies without one."""
+    def assert_dies(self, recorder: Callable[[], Recorder]) -> None:
+        """Each dies under a recorder of this kind as it dies without one."""
         for make in MAKERS:
             with self.subTest(make.__name__):
                 bare = dying(make)
-                with Recorder(kinds).watching():
+                with recorder().watching():
                     self.assertEqual(dying(make), bare)
 
     def test_each_dies_as_without_the_recorder(self) -> None:
-        self.assert_dies(KINDS)
+        self.assert_dies(Recorder)
 
     def test_each_dies_if_it_is_recorded_as_what_it_is_made_of(self) -> None:
-        self.assert_dies(frozenset())
-        self.assert_dies(frozenset({"clock"}))
+        self.assert_dies(lambda: Recorder(frozenset()))
+        self.assert_dies(lambda: Recorder(frozenset({"clock"})))
+
+    def test_each_dies_if_only_the_last_events_are_recorded(self) -> None:
+        for count in (1, 3):
+            self.assert_dies(lambda: LastRecorder(KINDS, SECRETS, count, lambda following: None))

@@ -12,8 +12,9 @@ import unittest
 from pathlib import Path
 from typing import Any, Dict, List
 
-from deferreds.twisted.commands import record
 from deferreds.twisted.recording.places import line_of
+
+from . import forked
 
 _PROGRAM = """
     from maker import made
@@ -159,7 +160,8 @@ class RecordTest(unittest.TestCase):
             program = Path(room, "a b.py")
             program.write_text("from twisted.internet.defer import Deferred\nDeferred().callback(1)\n", encoding="utf-8")
             name = str(Path(room, "out"))
-            self.assertEqual(record.main(["-o", name, "--view", str(program)]), 0)
+            words = ["-m", "deferreds.twisted", "record", "-o", name, "--view", str(program)]
+            self.assertEqual(forked.run(words, room, forked.environment()).returncode, 0)
             page = Path(f"{name}.html").read_text(encoding="utf-8")
             address = program.as_uri()
             link = f'<a class=at target=_top href="{address}" title="{program}:2"><bdi>a b.py:2</bdi></a>'

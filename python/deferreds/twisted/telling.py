@@ -796,7 +796,19 @@ class Observer:
         if self._clock is None and not clock.calls:
             self.use_clock(clock)
             self.clock_base = clock.seconds()
-        return self.clock is clock
+        return self.is_clock(clock)
+
+    def is_clock(self, clock: Any) -> bool:
+        """Whether this is the clock of the run. Any other has no times in a recording, which is noted once."""
+        if self.clock is clock:
+            return True
+        if clock._dv_further is not self:
+            clock._dv_further = self
+            self.note_further_clock()
+        return False
+
+    def note_further_clock(self) -> None:
+        """Notes that a clock is used which isn't that of the run."""
 
     @property
     def clock(self) -> Optional[Any]:

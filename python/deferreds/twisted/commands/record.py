@@ -34,7 +34,6 @@ import argparse
 import importlib.util
 import os
 import shutil
-import signal
 import sys
 from importlib.machinery import PathFinder
 from pathlib import Path
@@ -42,6 +41,7 @@ from typing import List, Optional, Set, Tuple
 
 from ...arguments import USAGE, Parser
 from ...checkout import as_called, command_name
+from ...ending import ProgramStatus
 from ...view.names import PLACES
 
 from ..instruments import install
@@ -53,6 +53,7 @@ from ..recording.hiding import CHOICES, SECRETS
 from ..recording.keeper import Keeper
 from ..recording.keeping import Keeping, Status
 from ..recording.last import LastRecorder
+from ..recording.main_module import is_runnable, set_first_folder
 from ..recording.messages import Messages
 from ..recording.programs import LADDER, NotLoaded, record_program, tests_of
 from ..recording.recorder import Recorder
@@ -160,12 +161,11 @@ def _target(arguments: argparse.Namespace) -> Tuple[str, List[str]]:
     if arguments.module:
         _refuse_module(target)
         return target, words
-    if not Path(target).is_file():
+    if not is_runnable(target):
         found = shutil.which(target) if os.sep not in target else None
         if found is None or not _is_python(found):
             raise Refused(_NO_PROGRAM, f"{target} isn't a file" + (", nor a Python script on the PATH" if os.sep not in target else ""))
         target = found
-    sys.path.insert(0, str(Path(target).resolve().parent))
     return target, words
 
 
@@ -208,9 +208,7 @@ def _program(arguments: argparse.Namespace, messages: Messages) -> int:
     with Endings(keeper).watched():
         status = record_program(recorder, target, words, bool(arguments.module), arguments.virtual)
         kept = keeper.keep(f"status {status}")
-    if status == -signal.SIGINT:
-        raise KeyboardInterrupt
-    return status or kept
+    return ProgramStatus(status or kept)
 
 
 def _test(arguments: argparse.Namespace, messages: Messages) -> int:
@@ -246,8 +244,8 @@ def main(words: List[str]) -> int:
         _check(arguments)
         install()
         if arguments.module or arguments.test:
-            # as `python3 -m` does it, also where the command is installed
-            sys.path.insert(0, str(Path.cwd()))
+            # modules are looked for as `python3 -m` does it, also where the command is installed
+            set_first_folder(os.getcwd())
         return _test(arguments, messages) if arguments.test else _program(arguments, messages)
     except Refused as why:
         messages.say(str(why))

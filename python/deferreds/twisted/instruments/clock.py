@@ -242,6 +242,7 @@ def _compare_order(watcher: Observer, clock: task.Clock) -> None:
 
 def install() -> None:
     """Puts the instrument into Clock."""
+    setattr(task.Clock, "_dv_further", None)
     # an object whose `__dict__` is asked for is slower from then on, so these are attributes
     for name in ("_dv_delayed", "_dv_timer", "_dv_waiting"):
         setattr(base.DelayedCall, name, None)

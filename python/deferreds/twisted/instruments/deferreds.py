@@ -41,7 +41,7 @@ from ..telling import (
     watched,
 )
 from ..texts import NULL, Outcome
-from .renaming import renamed
+from .renaming import direct, renamed
 
 #: typed as a function by Twisted, since its overloads say what it gives
 DeferredList: Any = defer.DeferredList
@@ -49,6 +49,9 @@ DeferredList: Any = defer.DeferredList
 _init: Callable[..., None] = Deferred.__init__
 _add_callbacks: Callable[..., Any] = Deferred.addCallbacks
 _chain_deferred = Deferred.chainDeferred
+_add_callback, _add_errback, _add_both = (
+    direct(getattr(Deferred, name), "addCallbacks", "_dv_add_callbacks") for name in ("addCallback", "addErrback", "addBoth")
+)
 _start: Callable[..., None] = renamed(Deferred._startRunCallbacks, "result", "_dv_result", "_dv_result")
 _run_callbacks: Callable[..., None] = renamed(Deferred._runCallbacks, "result", "_dv_result", "_dv_result")
 #: the same, which tells what it sets
@@ -76,6 +79,9 @@ PairArguments = Tuple[Any, Any, Any, Any]
 _givers: List[List[Tuple[Deferred[Any], int]]] = []
 
 Canceller = Callable[[Deferred[Any]], Any]
+
+#: adds a pair by the function that the program has called, which shows in tracebacks
+AddAs = Callable[[Any, Callable[..., Any], Callable[..., Any], PairArguments], object]
 
 #: adds a pair of Twisted's own that is recorded otherwise than others, unless it isn't such a one after all
 AddSpecial = Callable[
@@ -316,6 +322,25 @@ def _instrumented_add(
     return self
 
 
+def _add_as_callbacks(deferred: Any, callback: Callable[..., Any], errback: Callable[..., Any], arguments: PairArguments) -> None:
+    _add_callbacks(deferred, callback, errback, *arguments)
+
+
+def _add_as_callback(deferred: Any, callback: Callable[..., Any], _: Callable[..., Any], arguments: PairArguments) -> None:
+    _add_callback(deferred, callback, *arguments[0], **arguments[1])
+
+
+def _add_as_errback(deferred: Any, _: Callable[..., Any], errback: Callable[..., Any], arguments: PairArguments) -> None:
+    _add_errback(deferred, errback, *arguments[2], **arguments[3])
+
+
+def _add_as_both(deferred: Any, callback: Callable[..., Any], errback: Callable[..., Any], arguments: PairArguments) -> None:
+    if callback is errback:
+        _add_both(deferred, callback, *arguments[0], **arguments[1])
+    else:
+        _add_callbacks(deferred, callback, errback, *arguments)
+
+
 def _add(
     watcher: Observer,
     deferred: Any,
@@ -325,6 +350,7 @@ def _add(
     by_name: Any,
     on_failure: Any,
     by_name_on_failure: Any,
+    add: AddAs = _add_as_callbacks,
 ) -> None:
     """A pair is added where an observer is on."""
     if not callable(callback) or not callable(errback):
@@ -334,7 +360,7 @@ def _add(
     known = deferred._dv_record
     record = known[1] if known is not None and known[0] is watcher else watcher.record(deferred)
     if watcher.acting or deferred.called or record.hidden_of is not None:
-        _add_odd(watcher, deferred, record, callback, errback, (on_value, by_name, on_failure, by_name_on_failure))
+        _add_odd(watcher, deferred, record, callback, errback, (on_value, by_name, on_failure, by_name_on_failure), add)
         return
     if errback is _failthru:
         # what most programs do takes Python least here
@@ -381,6 +407,7 @@ def _add_odd(
     callback: Callable[..., Any],
     errback: Callable[..., Any],
     arguments: PairArguments,
+    add: AddAs,
 ) -> None:
     """A pair is added to a Deferred that is fired, or hidden, or while Twisted's own code acts."""
     if record.hidden_of is not None:
@@ -394,10 +421,10 @@ def _add_odd(
             return
     if watcher.acting and watcher.quiet:
         first, second = _own_side(watcher, record, callback), _own_side(watcher, record, errback)
-        _tell_pair(watcher, deferred, record, first, second, arguments)
+        _tell_pair(watcher, deferred, record, first, second, arguments, add)
     else:
         action, first, second = _pair(watcher, record, callback, errback, arguments)
-        watcher.act(action, _tell_pair, watcher, deferred, record, first, second, arguments)
+        watcher.act(action, _tell_pair, watcher, deferred, record, first, second, arguments, add)
 
 
 def _pair(
@@ -458,11 +485,12 @@ def _tell_pair(
     callback: Callable[..., Any],
     errback: Callable[..., Any],
     arguments: PairArguments,
+    add: AddAs,
 ) -> None:
     """Tells that a pair is added, and adds it."""
     tell_line = watcher.tell_line
     tell_line(("add ", record, None))
-    _add_callbacks(deferred, callback, errback, *arguments)
+    add(deferred, callback, errback, arguments)
 
 
 def add_silently(
@@ -584,14 +612,16 @@ def named_as(call: Callable[..., Any], side: Callable[..., Any]) -> Callable[...
     return side
 
 
-#: what stands in the place of Twisted's function: where a Deferred has another, that one is called
+#: what stands in the place of Twisted's function
 _own_add = _instrumented_add
+#: whether another one that a Deferred has is called by those that add a pair with one side: later Twisteds add it themselves
+_CALLS_ANY: bool = "addCallbacks" in getattr(Deferred.addCallback, "__code__").co_names
 
 
 def _instrumented_add_callback(
     self: Deferred[Any], callback: Callable[..., Any], *args: Any, **kwargs: Any
 ) -> Deferred[Any]:
-    if getattr(self.addCallbacks, "__func__", None) is not _own_add:
+    if _CALLS_ANY and getattr(self.addCallbacks, "__func__", None) is not _own_add:
         return self.addCallbacks(callback, callbackArgs=args, callbackKeywords=kwargs)
     watcher = watched.observer if observers_on else None
     if watcher is None:
@@ -599,14 +629,14 @@ def _instrumented_add_callback(
             refuse_elsewhere(self)
         _add_callbacks(self, callback, None, args, kwargs)
         return self
-    _add(watcher, self, callback, _failthru, args, kwargs, (), _NO_KEYWORDS)
+    _add(watcher, self, callback, _failthru, args, kwargs, (), _NO_KEYWORDS, _add_as_callback)
     return self
 
 
 def _instrumented_add_errback(
     self: Deferred[Any], errback: Callable[..., Any], *args: Any, **kwargs: Any
 ) -> Deferred[Any]:
-    if getattr(self.addCallbacks, "__func__", None) is not _own_add:
+    if _CALLS_ANY and getattr(self.addCallbacks, "__func__", None) is not _own_add:
         return self.addCallbacks(_passthru, errback, errbackArgs=args, errbackKeywords=kwargs)
     watcher = watched.observer if observers_on else None
     if watcher is None:
@@ -615,14 +645,14 @@ def _instrumented_add_errback(
         _add_callbacks(self, _passthru, errback, (), _NO_KEYWORDS, args, kwargs)
         return self
     given = _failthru if errback is None else errback
-    _add(watcher, self, _passthru, given, (), _NO_KEYWORDS, args, kwargs)
+    _add(watcher, self, _passthru, given, (), _NO_KEYWORDS, args, kwargs, _add_as_errback)
     return self
 
 
 def _instrumented_add_both(
     self: Deferred[Any], callback: Callable[..., Any], *args: Any, **kwargs: Any
 ) -> Deferred[Any]:
-    if getattr(self.addCallbacks, "__func__", None) is not _own_add:
+    if _CALLS_ANY and getattr(self.addCallbacks, "__func__", None) is not _own_add:
         return self.addCallbacks(
             callback,
             callback,
@@ -638,7 +668,7 @@ def _instrumented_add_both(
         _add_callbacks(self, callback, callback, args, kwargs, args, kwargs)
         return self
     errback = _failthru if callback is None else callback
-    _add(watcher, self, callback, errback, args, kwargs, args, kwargs)
+    _add(watcher, self, callback, errback, args, kwargs, args, kwargs, _add_as_both)
     return self
 
 
@@ -991,6 +1021,7 @@ def install() -> None:
     setattr(Deferred, "result", property(_get_result, _set_result, _delete_result))
     setattr(Deferred, "_dv_told_result", property(fset=_set_told_result))
     setattr(Deferred, "_dv_record", None)
+    setattr(Deferred, "_dv_add_callbacks", _add_callbacks)
     wrapped: Dict[str, Callable[..., Any]] = {
         "__init__": _instrumented_init,
         "addCallbacks": _instrumented_add,

@@ -380,4 +380,4 @@ def has_clock(watcher: Observer, clock: Any) -> bool:
     if not watcher.has_had_clock:
         watcher.use_clock(clock)
         watcher.pace = Pace(watcher, clock)
-    return watcher.pace is not None and watcher.clock is clock
+    return watcher.is_clock(clock) and watcher.pace is not None

@@ -263,6 +263,7 @@ def move(watcher: Observer, call: Any, action: Action, how: Callable[[Any, float
 
 def install() -> None:
     """Puts the instrument into ReactorBase, and has it hear what is logged."""
+    setattr(base.ReactorBase, "_dv_further", None)
     setattr(base.ReactorBase, "callLater", _instrumented_later)
     setattr(base.ReactorBase, "runUntilCurrent", _instrumented_turn)
     setattr(base.ReactorBase, "_insertNewDelayedCalls", _instrumented_insert)

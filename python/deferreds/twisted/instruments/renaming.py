@@ -9,6 +9,12 @@ from typing import Any, Callable
 _SETS = dis.opmap["STORE_ATTR"]
 
 
+def direct(function: Callable[..., Any], method: str, other: str) -> Callable[..., Any]:
+    """The function, which calls another method where it calls this one. One that doesn't is given as it is."""
+    calls = method in getattr(function, "__code__").co_names
+    return renamed(function, method, other, other) if calls else function
+
+
 def renamed(function: Callable[..., Any], attribute: str, read: str, set_: str) -> Callable[..., Any]:
     """The function, which reads the attribute under the name `read`, and sets it under the name `set_`. So do its calls of `getattr`.
 

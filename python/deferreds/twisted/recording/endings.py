@@ -16,6 +16,8 @@ import time
 from types import FrameType
 from typing import Any, Callable, Dict, Iterator, List, NoReturn, Optional, Protocol, Tuple
 
+from .signals import Handlers
+
 #: the signals that end a process which doesn't handle them, and leave it time
 _ENDING = tuple(
     getattr(signal, name)
@@ -92,6 +94,7 @@ class Endings:
         self._set: Dict[int, Any] = {}
         #: when the first signal came that ends the process
         self._since: Optional[float] = None
+        self._handlers = Handlers()
         self._signal = signal.signal
         self._getsignal = signal.getsignal
         self._exit = os._exit
@@ -142,26 +145,34 @@ class Endings:
     # signals
 
     def _handle(self) -> None:
-        """Handles the signals that would end the process, and the one that asks."""
+        """Handles the signals that would end the process, the one that asks, and Ctrl-C as Python itself does."""
+        if self._getsignal(signal.SIGINT) == signal.default_int_handler:
+            self._take(signal.SIGINT, signal.default_int_handler)
         for number in (*_ENDING, ASKING):
             if self._getsignal(number) == signal.SIG_DFL:
                 self._take(number, signal.SIG_DFL)
 
     def _unhandle(self) -> None:
         for number, handler in self._set.items():
-            if self._getsignal(number) in (self._on_end, self._on_asking):
+            if self._is_own(self._getsignal(number)):
                 self._signal(number, handler)
+
+    def _is_own(self, handler: Any) -> bool:
+        return handler in (self._on_end, self._on_asking, self._on_signal)
 
     def _take(self, number: int, handler: Any) -> None:
         self._set[number] = handler
         with contextlib.suppress(ValueError):  # (not in the main thread)
-            self._signal(number, self._on_asking if number == ASKING else self._on_end)
+            self._signal(number, self._on_asking if number == ASKING else self._on_signal if callable(handler) else self._on_end)
 
     def _set_signal(self, number: int, handler: Any) -> Any:
         """`signal.signal`, of a program that sees nothing of what is handled here."""
         before = self._get_signal(number)
         if number == ASKING and (callable(handler) or handler in (signal.SIG_DFL, signal.SIG_IGN)):
             self._signal(number, self._on_asking)
+            self._set[int(number)] = handler
+        elif callable(handler):
+            self._signal(number, self._on_signal)
             self._set[int(number)] = handler
         elif number in _ENDING and handler == signal.SIG_DFL:
             self._signal(number, self._on_end)
@@ -173,7 +184,7 @@ class Endings:
     def _get_signal(self, number: int) -> Any:
         """`signal.getsignal`, likewise."""
         handler = self._getsignal(number)
-        return self._set[number] if handler in (self._on_end, self._on_asking) else handler
+        return self._set[number] if self._is_own(handler) else handler
 
     def _on_end(self, number: int, frame: Optional[FrameType]) -> None:
         """A signal that nobody handles: the process ends by it. One that comes later ends it at once, though the run is being kept."""
@@ -190,6 +201,10 @@ class Endings:
     def _on_asking(self, number: int, frame: Optional[FrameType]) -> None:
         """The signal that asks for the run so far. What the program has set for it follows."""
         self._watcher.is_asked(frame)
+        self._on_signal(number, frame)
+
+    def _on_signal(self, number: int, frame: Optional[FrameType]) -> None:
+        """A signal that the program handles."""
         handler = self._set.get(number)
         if callable(handler):
-            handler(number, frame)
+            self._handlers.call(handler, number, frame)

@@ -8,6 +8,7 @@ from __future__ import annotations
 
 import inspect
 import os
+import signal
 import sys
 import weakref
 from types import FrameType
@@ -18,7 +19,8 @@ from twisted.internet import base, defer, task, threads
 from twisted.python import context, failure, log
 
 from ..instruments.reactors import LOOPS
-from ..telling import is_dead_reference, looked_round, looked_round_names, switches
+from ..telling import is_dead_reference, looked_round, looked_round_names, switches, watched
+from .places import is_of_twisted, is_pythons
 
 #: the files of Twisted's code that runs actions
 _ACTING = {*LOOPS, *(module.__file__ for module in (base, defer, task, threads, context, failure))}
@@ -26,6 +28,9 @@ _MODULES = {module.__name__ for module in (base, defer, task)}
 #: the folders of what watches Twisted, and of Twisted's logger
 _WATCHING = os.path.dirname(os.path.dirname(__file__)) + os.sep
 _LOGGER = os.path.dirname(logger.__file__) + os.sep
+
+#: the files of the recorder that only run the program
+_RUNNERS = {os.path.join(os.path.dirname(__file__), name) for name in ("main_module.py", "programs.py")}
 
 _GENERATORS = inspect.CO_GENERATOR | inspect.CO_COROUTINE | inspect.CO_ASYNC_GENERATOR
 
@@ -69,13 +74,16 @@ KIND_OF_ACTION: Dict[str, str] = {
 
 
 class Inside(NamedTuple):
-    """Where the program acted last inside an action: how many parts of lines were logged then, the place, and whether it may; and how
-    many events had ended."""
+    """Where the program acted last inside an action: how many parts of lines were logged then, the place, and whether it may.
+
+    `ended`: how many events had ended. `reason`: why not, if more is logged after it.
+    """
 
     told: int
     place: str
     is_uncalled: bool
     ended: int
+    reason: str
 
 
 class _Files(Dict[str, bool]):
@@ -149,6 +157,32 @@ def is_uncalled(frame: FrameType) -> bool:
     if code.co_filename in (weakref.__file__, log.__file__) or code.co_filename.startswith(_LOGGER):
         return True
     return any(is_dead_reference(given) or isinstance(given, FrameType) for given in _arguments(frame))
+
+
+def reason_of(frame: Optional[FrameType]) -> str:
+    """Why this code, which no action calls, can't be recorded, where Twisted's own goes on after it."""
+    given = [] if frame is None else list(_arguments(frame))
+    number = next((one for one in given if isinstance(one, int)), None)
+    if number is None or not any(isinstance(one, FrameType) for one in given):
+        return FINALIZED
+    name = signal.Signals(number).name if number in set(signal.Signals) else f"signal {number}"
+    return f"a handler of {name} uses Deferreds inside Twisted's own code, which goes on after it"
+
+
+def runs_program(frame: Optional[FrameType]) -> bool:
+    """Whether a frame is the program's, or a reactor's that waits: what code does that is called from there can be recorded."""
+    watcher = watched.observer
+    if watcher is None:
+        return True
+    while frame is not None:
+        file = frame.f_code.co_filename
+        if file.startswith(_WATCHING):
+            return file in _RUNNERS
+        is_twisteds = file in _ACTING or (watcher.acting and is_of_twisted(file))
+        if not is_twisteds and not file.startswith("<frozen") and not is_pythons(file):
+            return True
+        frame = frame.f_back
+    return True
 
 
 def _arguments(frame: FrameType) -> Iterator[Any]:

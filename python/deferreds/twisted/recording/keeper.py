@@ -15,6 +15,7 @@ from .endings import signals_waiting
 from .keeping import Keeping, Status
 from .last import LastRecorder
 from .messages import file_of
+from .originals import Originals
 from .recorder import Recorder
 from .room import Reserve, memory_left
 from .saying import Said
@@ -55,6 +56,7 @@ class Keeper:
         self._recorder = recorder
         self._keeping = keeping
         self._before = before
+        self._originals = Originals()
         self._is_busy = False
         self._is_snapshot = False
         #: of each copy that writes the run so far a pipe, which is at its end when that has written, and which file it is
@@ -98,7 +100,7 @@ class Keeper:
             return self._ended_early
         is_busy, self._is_busy = self._is_busy, True
         try:
-            with self._reserve.released():
+            with self._originals, self._reserve.released():
                 self._wait_for_writers()
                 return self._keep(how, self._ended(frame))
         except MemoryError:
@@ -134,11 +136,15 @@ class Keeper:
     def becomes_another(self, how: str, frame: Optional[FrameType]) -> None:
         """Another program takes the place of this one, if it can: a copy of this process writes the run, and has done so then."""
         if not self.is_idle_child:
-            self._copy(lambda: self.ends(how, frame))
+            with self._originals:
+                self._copy(lambda: self.ends(how, frame))
 
     def is_asked(self, frame: Optional[FrameType]) -> None:
         """Somebody asks for the run so far: a copy of a copy writes it, for which the program doesn't wait."""
+        with self._originals:
+            self._write_in_copy(frame)
 
+    def _write_in_copy(self, frame: Optional[FrameType]) -> None:
         def write() -> None:
             if _forked() == 0:
                 self.ends("asked by SIGUSR1", frame)

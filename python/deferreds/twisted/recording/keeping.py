@@ -5,7 +5,7 @@ from __future__ import annotations
 import enum
 import platform
 import signal
-from typing import Any, Dict, Optional, Sequence
+from typing import Any, Dict, List, Optional, Sequence
 
 import twisted
 
@@ -20,6 +20,10 @@ from .files import Place, Written
 from .messages import Messages
 from .recorder import Problem
 from .saying import Said
+
+
+#: how many places a message names
+_MOST_PLACES = 3
 
 
 class Status(enum.IntEnum):
@@ -157,6 +161,8 @@ class Keeping:
             self.messages.say(f"further Cooperators are recorded as events: {said.unnamed}")
         if said.tick:
             self.messages.say(f"1 tick = {said.tick}")
+        if said.further_clocks:
+            self.messages.say(_of_further_clocks(said.further_clocks))
         if said.elsewhere:
             self.messages.say(f"left out: {several(said.elsewhere, 'Deferred', 'Deferreds')} of other threads")
         lines, deferreds = several(len(said.journal), "line", "lines"), several(len(said.records), "Deferred", "Deferreds")
@@ -182,6 +188,13 @@ def _cut_by(how: str) -> str:
     if how == f"status {-signal.SIGINT}":
         return "Ctrl-C"
     return how.split()[-1] if how.startswith(("SIG", "asked by ")) else ""
+
+
+def _of_further_clocks(places: List[str]) -> str:
+    """That clocks have no times in a recording, which were first used at these places."""
+    shown = ", ".join([*dict.fromkeys(places[:_MOST_PLACES]), *([".."] if len(places) > _MOST_PLACES else [])])
+    whose = "its" if len(places) == 1 else "their"
+    return f"no times for {several(len(places), 'further clock', 'further clocks')} ({shown}): {whose} calls are recorded as events"
 
 
 def _beginning(said: Said) -> str:

@@ -46,12 +46,23 @@ class _Files(Dict[str, bool]):
 _FILES = _Files()
 
 
+_TWISTED = os.path.dirname(twisted.__file__) + os.sep
 #: where Twisted and Python's own library are, whose code isn't the program's own
 _LIBRARIES = tuple(
-    {os.path.dirname(twisted.__file__) + os.sep, *(sysconfig.get_path(name) + os.sep for name in ("stdlib", "platstdlib"))}
+    {_TWISTED, *(sysconfig.get_path(name) + os.sep for name in ("stdlib", "platstdlib"))}
 )
 #: what of these folders is a program's own after all: tests of Twisted, and packages that are installed
 _NOT_OF_LIBRARIES = (f"{os.sep}test{os.sep}", f"{os.sep}site-packages{os.sep}", f"{os.sep}dist-packages{os.sep}")
+
+
+def is_of_twisted(file: str) -> bool:
+    """Whether a file is in Twisted's package."""
+    return file.startswith(_TWISTED)
+
+
+def is_pythons(file: str) -> bool:
+    """Whether a file is of Python's own library."""
+    return not is_of_twisted(file) and _is_library(file)
 
 
 def _is_library(file: str) -> bool:

@@ -7,15 +7,15 @@ import contextlib
 import importlib.util
 import io
 import pkgutil
-import runpy
-import signal
 import sys
 import unittest
 from typing import Any, Callable, List, Tuple
 
 from ..instruments import install
+from ..instruments.tracebacks import stands_in
 from ..telling import KINDS, watched
 from .hiding import SECRETS
+from .main_module import run_as_main
 from .reactor import VirtualReactor, in_place_of_the_real
 from .recorder import Recorder
 
@@ -41,10 +41,6 @@ LADDER: Tuple[frozenset[str], ...] = tuple(
     )
 )
 
-#: the files whose code runs a program
-_RUNNERS = {__file__, runpy.run_path.__code__.co_filename, "<frozen runpy>"}
-
-
 _BUILTINS = vars(builtins)
 
 
@@ -53,14 +49,16 @@ class PrintingNotes:
 
     def __enter__(self) -> None:
         self._print: Callable[..., None] = _BUILTINS["print"]
-        _BUILTINS["print"] = self._note
+        self._noting = _BUILTINS["print"] = self._note
 
     def __exit__(self, *error: object) -> None:
-        _BUILTINS["print"] = self._print
+        if _BUILTINS["print"] is self._noting:  # (the program may have put another one there)
+            _BUILTINS["print"] = self._print
 
     def _note(self, *values: Any, **kwargs: Any) -> None:
         recorder = watched.observer
-        if kwargs.get("file") is not None or not isinstance(recorder, Recorder) or recorder.acting:
+        is_elsewhere = kwargs.get("file") is not None or sys.stdout is None
+        if is_elsewhere or not isinstance(recorder, Recorder) or recorder.acting:
             self._print(*values, **kwargs)
             return
         said = io.StringIO()
@@ -69,56 +67,17 @@ class PrintingNotes:
         recorder.note(said.getvalue())
 
 
+stands_in(PrintingNotes._note)
+
+
 def record_program(
     recorder: Recorder, target: str, words: List[str], is_module: bool, virtual: bool
 ) -> int:
     """Runs a file or a module as `__main__`, and gives its exit status: -SIGINT, where Ctrl-C has ended it."""
     install()
-    reactor = VirtualReactor() if virtual else None
-    before, sys.argv = sys.argv, [target, *words]
-    try:
-        place = contextlib.nullcontext() if reactor is None else in_place_of_the_real(reactor)
-        with place, PrintingNotes():
-            status = _run(recorder, target, is_module)
-        return status
-    finally:
-        sys.argv = before
-
-
-def _run(recorder: Recorder, target: str, is_module: bool) -> int:
-    try:
-        with recorder.watching():
-            if is_module:
-                runpy.run_module(target, run_name="__main__", alter_sys=True)
-            else:
-                runpy.run_path(target, run_name="__main__")
-    except SystemExit as exit_:
-        return _status_of(exit_.code)
-    except KeyboardInterrupt as interrupt:
-        _show(interrupt)
-        return -signal.SIGINT
-    except BaseException as error:
-        _show(error)
-        return 1
-    return 0
-
-
-def _status_of(code: object) -> int:
-    """The status with which Python ends where this is given to `sys.exit`; a text is shown."""
-    if code is None:
-        return 0
-    if isinstance(code, int):
-        return code & 0xFF
-    print(code, file=sys.stderr)
-    return 1
-
-
-def _show(error: BaseException) -> None:
-    """Shows an error that has left the program, as Python would: without the frames that have run it."""
-    trace = error.__traceback__
-    while trace is not None and trace.tb_frame.f_code.co_filename in _RUNNERS:
-        trace = trace.tb_next
-    sys.excepthook(type(error), error.with_traceback(trace), trace)
+    place = in_place_of_the_real(VirtualReactor()) if virtual else contextlib.nullcontext()
+    with place, PrintingNotes(), recorder.watching():
+        return run_as_main(target, words, is_module)
 
 
 def _modules_of(name: str) -> List[str]:

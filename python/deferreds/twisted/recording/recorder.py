@@ -31,7 +31,7 @@ from ..telling import (
 from ..texts import NULL, Outcome, Text, compact, weight_of
 from .bodies import SHALLOW, Body, Run, Steps, Unsayable, forget_bodies
 from .hiding import SECRETS, Hiding
-from .inside import CALLED, FINALIZED, KIND_OF_ACTION, MEDDLED, Inside, entry, is_entered, is_uncalled, worked_on
+from .inside import CALLED, KIND_OF_ACTION, MEDDLED, Inside, entry, is_entered, is_uncalled, reason_of, worked_on
 from .places import Spots, place, spot
 from .values import Values, is_member
 
@@ -63,7 +63,7 @@ class Problem(NamedTuple):
 
 
 #: how many times as many frames a program may have on Python's stack where it is recorded
-_ROOM = 3
+STACK_ROOM = 3
 
 #: why a script can't say what the program does where it is asked for the text of an object
 ASKED = "the text of an object is worked out with more than Deferreds of its own"
@@ -115,7 +115,7 @@ class Recorder(Observer):
     frame: Run
     texts: Values
 
-    stack_room = _ROOM
+    stack_room = STACK_ROOM
     #: how many events come before those by which the runs of bodies count, and how many parts of lines before those that are noted so
     preceding = preceding_parts = 0
     #: what watches where the text of an object is asked for, once one was
@@ -143,10 +143,16 @@ class Recorder(Observer):
         self.spots = Spots()
         #: how many events have ended
         self.ended = 0
+        #: where clocks were first used that aren't that of the run
+        self.further_clocks: List[str] = []
 
     def problem(self, reason: str, kind: Optional[str] = None) -> None:
         """Notes what a script can't say."""
         self.problems.append(Problem(reason, place(), kind, self.ended))
+
+    def note_further_clock(self) -> None:
+        """Notes that a clock is used which isn't that of the run."""
+        self.further_clocks.append(place().partition(" in ")[0])
 
     def place(self) -> str:
         """The place in the program."""
@@ -403,7 +409,7 @@ class Recorder(Observer):
             frame.expected, frame.anonymous, frame.passing, self._told, self.forwarded, self.turn, self.maker = kept
             if uncalled and any(part is one for part in self.parts[before:] if part is not None for one in busy):
                 self.problem(MEDDLED)
-            self._inside = Inside(len(self.parts), place(), uncalled, ended)
+            self._inside = Inside(len(self.parts), place(), uncalled, ended, reason_of(entered))
 
     def _known_as(self, thing: object) -> object:
         """What lines name an object by, if any do."""
@@ -417,7 +423,7 @@ class Recorder(Observer):
     def _refuse_unless_last(self, inside: Inside, raised: bool) -> None:
         """Refuses what was done inside Twisted's code, where that has gone on to tell something after it."""
         if inside.is_uncalled and (raised or inside.told < len(self.parts)):
-            self.problems.append(Problem(FINALIZED, inside.place, None, inside.ended))
+            self.problems.append(Problem(inside.reason, inside.place, None, inside.ended))
 
     def _kind_performed(self) -> Optional[str]:
         """The kind of objects to which what Twisted runs belongs."""

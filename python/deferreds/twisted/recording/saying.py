@@ -139,6 +139,11 @@ class Said:
         return self._recorder.elsewhere
 
     @property
+    def further_clocks(self) -> List[str]:
+        """Where clocks were first used that have no times here, since another was used before."""
+        return self._recorder.further_clocks
+
+    @property
     def is_empty(self) -> bool:
         """Whether nothing has happened, but that time went on."""
         return all(isinstance(action, Advance) for action in self.actions) and not self.records

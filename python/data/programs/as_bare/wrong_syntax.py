@@ -1,0 +1,5 @@
+"""Isn't Python."""
+
+from twisted.internet import defer
+
+defer = = 1
