@@ -25,6 +25,7 @@ try:
         queues,
         reactors,
         scheduled,
+        starts,
         tasks,
         timers,
         tracebacks,
@@ -48,7 +49,7 @@ def install() -> None:
         from ..self_test import check
 
         _check = check
-        for instrument in (deferreds, lists, maybe, locks, queues, clock, reactors, calls, jobs, timers, loops, inline, tasks):
+        for instrument in (deferreds, lists, maybe, locks, queues, clock, reactors, starts, calls, jobs, timers, loops, inline, tasks):
             instrument.install()
         scheduled.install()
         tracebacks.install()

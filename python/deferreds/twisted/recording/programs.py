@@ -15,6 +15,7 @@ from typing import Any, Callable, List, Tuple
 
 from ..instruments import install
 from ..telling import KINDS, watched
+from .elsewhere import wait_for_thread
 from .hiding import SECRETS
 from .reactor import VirtualReactor, in_place_of_the_real
 from .recorder import Recorder
@@ -79,7 +80,9 @@ def record_program(
     try:
         place = contextlib.nullcontext() if reactor is None else in_place_of_the_real(reactor)
         with place, PrintingNotes():
+            recorder.moves = True
             status = _run(recorder, target, is_module)
+            wait_for_thread(recorder)
         return status
     finally:
         sys.argv = before
