@@ -20,7 +20,7 @@ _FOLDER = Path(__file__).resolve().parent
 _PROCESSES = 2
 
 #: the modules that take longest, which begin first
-_LONGEST = ("test_conform", "test_endings", "test_real_reactor", "test_last", "test_testing")
+_LONGEST = ("test_conform", "test_endings", "test_reactors", "test_real_reactor", "test_last", "test_testing")
 
 
 class Ran(NamedTuple):

@@ -137,6 +137,14 @@ class Commands(unittest.TestCase):
             self.assertEqual(ran.returncode, 0, ran.stderr)
             self.assert_same(folder)
 
+    def test_a_test_under_the_reactor_of_asyncio(self) -> None:
+        with tempfile.TemporaryDirectory() as folder:
+            text = "from twisted.internet import asyncioreactor\nasyncioreactor.install()\nfrom waiting_cases import WaitingCase\n"
+            Path(folder, "cases_of_asyncio.py").write_text(text, encoding="utf-8")
+            ran = self.record(folder, "--test", "cases_of_asyncio.WaitingCase.test_answer")
+            self.assertEqual(ran.returncode, 0, ran.stderr)
+            self.assert_same(folder)
+
     def test_trial_is_a_program_like_others(self) -> None:
         with tempfile.TemporaryDirectory() as folder:
             ran = self.record(folder, "-m", "twisted.trial", "waiting_cases.WaitingCase.test_answer")

@@ -3,6 +3,7 @@
 from __future__ import annotations
 
 import tempfile
+import unittest
 from typing import List, Optional
 
 from deferreds.twisted.telling import KINDS
@@ -90,3 +91,7 @@ class Reactors(ProgramTest):
             for seed in seeds:
                 with self.subTest(reactor, seed=seed):
                     self.recorded(f"on_reactor {reactor} random_times {seed}")
+
+
+if __name__ == "__main__":
+    unittest.main()

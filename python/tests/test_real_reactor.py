@@ -52,8 +52,11 @@ class Recording:
 
 
 def words_of(program: str) -> List[str]:
-    """The name of a program as that of its file, with the words that follow."""
-    return [os.fspath(PROGRAMS / f"{word}.py") if (PROGRAMS / f"{word}.py").exists() else word for word in program.split()]
+    """The file of a program, and its words. That which `on_reactor` runs is named by its file, too."""
+    words = program.split()
+    for place in (0, 2) if words[0] == "on_reactor" else (0,):
+        words[place] = os.fspath(PROGRAMS / f"{words[place]}.py")
+    return words
 
 
 def _text(path: Path) -> str:

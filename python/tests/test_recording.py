@@ -11,7 +11,7 @@ import unittest
 from pathlib import Path
 from typing import Any, Callable, List
 
-from twisted.internet import defer, reactor, task
+from twisted.internet import base, defer, reactor, task
 from twisted.python.failure import Failure
 
 from deferreds.twisted.instruments import install
@@ -507,6 +507,24 @@ class Transparent(unittest.TestCase):
 
         recorded(lambda: defer.succeed(1).addCallback(callback, 2, key=3))
         self.assertEqual(came, [(1, (2,), {"key": 3})])
+
+
+class Names(unittest.TestCase):
+    """What is put into Twisted."""
+
+    def test_functions_are_called_as_those_in_whose_place_they_are(self) -> None:
+        install()
+        for place, name in (
+            (defer.Deferred, "callback"),
+            (defer.DeferredQueue, "get"),
+            (base.DelayedCall, "cancel"),
+            (base.ReactorBase, "callLater"),
+            (task.Clock, "advance"),
+            (task.LoopingCall, "start"),
+        ):
+            function = getattr(place, name)
+            self.assertEqual((function.__name__, function.__qualname__), (name, f"{place.__name__}.{name}"))
+            self.assertEqual(function.__module__, place.__module__)
 
 
 if __name__ == "__main__":

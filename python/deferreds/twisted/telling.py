@@ -375,7 +375,7 @@ class Watching:
         in_thread = watched.__dict__
         self._before, in_thread["observer"] = in_thread.get("observer"), observer
         if not observer.is_on:
-            observer.is_on, observer.thread = True, get_ident()
+            observer.is_on, observer.thread, observer.in_thread = True, get_ident(), in_thread
             observers_on.append(observer)
             self._limit = limit = getrecursionlimit()
             setrecursionlimit(limit * observer.stack_room)
@@ -384,9 +384,9 @@ class Watching:
     def __exit__(self, *error: object) -> None:
         watched.observer = self._before
         limit = self._limit
-        if not limit:
-            return
         observer = self._observer
+        if not limit or on_elsewhere(observer.lineage) is not None:
+            return
         if observer.is_on and observers_on[-1] is observer:
             del observers_on[-1]
             observer.is_on = False
@@ -397,10 +397,17 @@ class Watching:
 
 
 def take_off(lineage: object) -> None:
-    """Has the observer that has taken over from another be on no more."""
+    """Has the observer that has taken over from another, or has moved to another thread, be on no more."""
     for observer in [observer for observer in observers_on if observer.lineage is lineage]:
         observers_on.remove(observer)
         observer.is_on = False
+        if observer.in_thread is not None and observer.in_thread.get("observer") is observer:
+            observer.in_thread["observer"] = None
+
+
+def on_elsewhere(lineage: object) -> Optional["Observer"]:
+    """The observer of these that take over from each other which is on in another thread, if one is."""
+    return next((one for one in observers_on if one.lineage is lineage and one.thread != get_ident()), None)
 
 
 class Settled(NamedTuple):
@@ -434,8 +441,12 @@ class Observer:
     elsewhere = 0
     #: whether what is due is run after an error of a delayed call too, as under a reactor
     goes_on_after_errors = False
-    #: the thread in which it is on
+    #: the thread in which it is on, the attributes of `watched` there, and the reactor that has started there last
     thread = 0
+    in_thread: Optional[Dict[str, Any]] = None
+    reactor: Any = None
+    #: whether it moves to the thread in which a reactor starts
+    moves = False
     #: the Deferred to which a cancel is being passed on along a wait
     forwarded: Optional[Deferred[Any]] = None
     #: what the body that has ended last gave, where it was asked for
@@ -485,10 +496,18 @@ class Observer:
 
     def hand_over(self, following: "Observer") -> None:
         """Has another observer watch from here on, in the place of this one."""
-        following.lineage, following.thread = self.lineage, self.thread
+        following.lineage, following.thread, following.in_thread = self.lineage, self.thread, self.in_thread
+        following.reactor, following.moves = self.reactor, self.moves
         observers_on[observers_on.index(self)] = following
         self.is_on, following.is_on = False, True
         watched.observer = following
+
+    def move_here(self) -> None:
+        """Watches in this thread from here on, and no more in the one in which it was on."""
+        if self.in_thread is not None:
+            self.in_thread["observer"] = None
+        self.thread, self.in_thread = get_ident(), watched.__dict__
+        watched.observer = self
 
     @property
     def quiet(self) -> bool:

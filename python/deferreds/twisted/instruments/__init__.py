@@ -6,12 +6,15 @@ refuses a Twisted that lacks a name, and `install` refuses one under which the s
 
 from __future__ import annotations
 
-from typing import Callable, Optional
+from types import FunctionType
+from typing import Any, Callable, Iterator, List, NamedTuple, Optional
 
 from ..known import UnknownTwisted, refuse_unusable, version
 
 refuse_unusable()
 try:
+    from twisted.internet import base, defer, task
+
     from . import (
         calls,
         clock,
@@ -25,6 +28,7 @@ try:
         queues,
         reactors,
         scheduled,
+        starts,
         tasks,
         timers,
         tracebacks,
@@ -33,6 +37,31 @@ except ModuleNotFoundError:
     raise
 except (AttributeError, ImportError) as missing:
     raise UnknownTwisted(f"Twisted {version()} isn't known: {missing}") from missing
+
+class _Function(NamedTuple):
+    """A function of Twisted's, in a module or a class of these."""
+
+    place: Any
+    name: str
+    function: FunctionType
+
+
+def _functions() -> Iterator[_Function]:
+    """The functions that the instruments may replace."""
+    for module in (base, defer, task):
+        for place in (module, *(each for each in vars(module).values() if isinstance(each, type) and each.__module__ == module.__name__)):
+            for name, function in vars(place).items():
+                if isinstance(function, FunctionType):
+                    yield _Function(place, name, function)
+
+
+def _keep_names(before: List[_Function]) -> None:
+    """Has functions be called as those in whose place they are: asyncio and Twisted show what they call by its name."""
+    for place, name, function in before:
+        now = vars(place).get(name)
+        if now is not function and isinstance(now, FunctionType):
+            now.__module__, now.__name__, now.__qualname__ = function.__module__, function.__name__, function.__qualname__
+
 
 #: what tries the instruments, once they are put in
 _check: Optional[Callable[[], None]] = None
@@ -48,8 +77,10 @@ def install() -> None:
         from ..self_test import check
 
         _check = check
-        for instrument in (deferreds, lists, maybe, locks, queues, clock, reactors, calls, jobs, timers, loops, inline, tasks):
+        before = list(_functions())
+        for instrument in (deferreds, lists, maybe, locks, queues, clock, reactors, starts, calls, jobs, timers, loops, inline, tasks):
             instrument.install()
+        _keep_names(before)
         scheduled.install()
         tracebacks.install()
     _check()

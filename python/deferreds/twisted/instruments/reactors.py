@@ -83,7 +83,7 @@ def waiting_of(watcher: Optional[Observer], call: Any) -> Optional[Waiting]:
 
 
 def _instrumented_later(self: Any, delay: float, f: Callable[..., Any], *args: Any, **kwargs: Any) -> Any:
-    if type(f) is Unrecorded or _is_of_reactor(sys._getframe(1)):
+    if type(f) is Unrecorded or _is_of_reactor(sys._getframe().f_back):
         return _later(self, delay, f, *args, **kwargs)
     if watched.is_resting and watched.observer is None:
         return _later(self, delay, _Unwatched(f), *args, **kwargs)
@@ -104,9 +104,11 @@ def _instrumented_later(self: Any, delay: float, f: Callable[..., Any], *args: A
     return _act_later(watcher, self, delay, f, args, kwargs)
 
 
-def _is_of_reactor(frame: FrameType) -> bool:
-    """Whether a reactor schedules something by itself, where this is the frame that has called the instrument."""
-    return frame.f_code.co_filename == _ASYNCIO and frame.f_back is not None and frame.f_back.f_code.co_filename == _ASYNCIO
+def _is_of_reactor(frame: Optional[FrameType]) -> bool:
+    """Whether a reactor schedules something by itself. The frame is that which has called the instrument: none, where Python has."""
+    if frame is None or frame.f_code.co_filename != _ASYNCIO:
+        return False
+    return frame.f_back is not None and frame.f_back.f_code.co_filename == _ASYNCIO
 
 
 class _Unwatched:

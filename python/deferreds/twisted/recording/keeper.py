@@ -11,6 +11,7 @@ from typing import Callable, List, Optional, Tuple
 
 from ..instruments.pace import Pace
 from ..telling import Observer
+from .elsewhere import end_elsewhere, is_elsewhere, pause_elsewhere
 from .endings import signals_waiting
 from .keeping import Keeping, Status
 from .last import LastRecorder
@@ -101,6 +102,7 @@ class Keeper:
         is_busy, self._is_busy = self._is_busy, True
         try:
             with self._originals, self._reserve.released():
+                end_elsewhere(self._recorder)
                 self._wait_for_writers()
                 return self._keep(how, self._ended(frame))
         except MemoryError:
@@ -181,6 +183,7 @@ class Keeper:
             return
         self._is_snapshot = True
         try:
+            pause_elsewhere(self._recorder)
             child = _forked()
             if child == 0:
                 try:
@@ -217,6 +220,8 @@ class Keeper:
 
     def _is_under_way(self, frame: Optional[FrameType]) -> bool:
         """Whether an event is under way, or lines of one are logged that isn't noted yet."""
+        if is_elsewhere(self._recorder):
+            return self._recorder.frame is not self._recorder.top or self._recorder.acting
         if frame is None:
             return False
         while frame is not None:

@@ -14,6 +14,7 @@ from typing import Any, Callable, List, Tuple
 from ..instruments import install
 from ..instruments.tracebacks import stands_in
 from ..telling import KINDS, watched
+from .elsewhere import wait_for_thread
 from .hiding import SECRETS
 from .main_module import run_as_main
 from .reactor import VirtualReactor, in_place_of_the_real
@@ -76,8 +77,12 @@ def record_program(
     """Runs a file or a module as `__main__`, and gives its exit status: -SIGINT, where Ctrl-C has ended it."""
     install()
     place = in_place_of_the_real(VirtualReactor()) if virtual else contextlib.nullcontext()
-    with place, PrintingNotes(), recorder.watching():
-        return run_as_main(target, words, is_module)
+    with place, PrintingNotes():
+        recorder.moves = True
+        with recorder.watching():
+            status = run_as_main(target, words, is_module)
+        wait_for_thread(recorder)
+    return status
 
 
 def _modules_of(name: str) -> List[str]:
