@@ -672,6 +672,13 @@ class Behind(RecordingCase):
                 self.assertNotIn(" ok 2\n", self.text(f"{entry}.journal"))
                 self.assert_printed_by_twisted(entry, entry)
 
+    def test_on_a_real_reactor_and_with_cooperators_that_are_recorded_as_events(self) -> None:
+        ended = self.record("-o", "run", "behind_an_entry_in_turns.py")
+        self.assertEqual((ended.status, ended.printed), (0, "3\n"), ended.said)
+        self.assertRegex(ended.said, r"further Cooperators are recorded as events")
+        self.assertRegex(ended.said, r"the script is of the first \d+ of \d+ events, since behind .* ok 2; .* and real Twisted the same, line for line\n")
+        self.assert_goes_together("run")
+
     def agreed(self, judge: Optional[Program]) -> Agreed:
         """How a run goes together with its journal that comes to an entry in its second event, by a judge in the place of real Twisted."""
         be_quiet()

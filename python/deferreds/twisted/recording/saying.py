@@ -56,10 +56,12 @@ class CannotSay(Exception):
 class Said:
     """A recorded run, said."""
 
-    def __init__(self, recorder: Recorder, ended: Optional[int] = None) -> None:
-        """`ended`: how many events of the program have ended; those after them aren't part of the script. None: all have."""
+    def __init__(self, recorder: Recorder, ended: Optional[int] = None, counts: Optional[Sequence[int]] = None) -> None:
+        """`ended`: how many events of the program have ended; those after them aren't part of the script. None: all have.
+
+        `counts`: where further Cooperators are left out already, by how many events have ended, how many of the recorded ones."""
         hide_again(recorder)
-        self._recorder = self._whole = recorder
+        self._recorder = recorder
         self._scale = 1
         self.problems: List[Problem] = []
         #: why further Cooperators aren't in the script, where it is of a run that has some
@@ -67,12 +69,13 @@ class Said:
         #: what stands in the way of that, where it does
         self.hindrance = ""
         #: by how many events have ended of those by which runs count, how many of the recorded ones; None: as many
-        self._counts: Optional[Sequence[int]] = None
+        self._counts = counts
         #: those of the problems that are of the size of the whole run alone: the script is of its beginning
         self.too_large: List[Problem] = []
         #: whether the script is of the beginning of the run, since it can't say what comes next
         self.is_cut = False
-        self._ended = len(recorder.events) if ended is None else min(ended, len(recorder.events))
+        most = len(recorder.events if counts is None else counts[1:])
+        self._ended = most if ended is None else min(ended, most)
         #: what number of steps the ticks of each Cooperator have at first, by its number of Python, if a script can say what they have
         self._tick_units: Dict[int, int] = {}
         #: the Cooperators that are named in the script, by the numbers of Python for their names
@@ -80,6 +83,7 @@ class Said:
         conflict = self._settle()
         self._change_units()
         if self._leave_unnamed(conflict):
+            hide_again(self._recorder)
             conflict = self._settle()
             self._change_units()
         self._note_problems(conflict)
@@ -156,7 +160,8 @@ class Said:
         place = min(bisect_right(self.begins, line - 1), self.events) - 1
         ended = max((count for count in range(self._ended + 1) if self._counted(count) <= self._places[max(place, 0)]), default=0)
         self._declared.forget()
-        shorter = Said(self._whole, ended)
+        shorter = Said(self._recorder, ended, self._counts)
+        shorter.unnamed = self.unnamed
         if place <= 0 or shorter.script is None or not 0 < shorter.events < self.events:
             return None
         problem = Problem(why, "", None)
