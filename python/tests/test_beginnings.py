@@ -10,6 +10,7 @@ from types import SimpleNamespace
 from typing import Any, Callable, List, Tuple
 
 from twisted.internet import defer, task
+from twisted.internet.base import ReactorBase
 from twisted.python.failure import Failure
 
 from deferreds.twisted.instruments import install
@@ -173,11 +174,22 @@ class Beginnings(unittest.TestCase):
         loop.start(1)
 
 
+class _Reactor:
+    """A reactor of which only the time is asked for."""
+
+    callLater = ReactorBase.callLater
+    now = 0.0
+
+    def seconds(self) -> float:
+        """What time it is."""
+        return self.now
+
+
 class Times(unittest.TestCase):
     """No times give the order of a run on a real reactor."""
 
     def test_the_beginning_that_has_times_is_said(self) -> None:
-        reactor = SimpleNamespace(now=0.0, seconds=lambda: reactor.now)
+        reactor = _Reactor()
         recorder = Recorder()
         recorder.use_clock(reactor)
         pace = recorder.pace = Pace(recorder, reactor)
