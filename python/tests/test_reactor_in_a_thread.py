@@ -62,12 +62,12 @@ class ReactorInAThread(RecordingCase):
 
     def test_a_reactor_that_starts_in_the_midst_of_an_event_is_refused(self) -> None:
         ended = self.record(_PROGRAM, "busy")
-        self.assertEqual((ended.status, self.scripts()), (3, []), ended.said)
+        self.assertEqual((ended.status, self.scripts()), (3, ["reactor_in_a_thread"]), ended.said)
         self.assertIn(BUSY, ended.said)
 
     def test_a_deferred_of_both_threads_is_refused(self) -> None:
         ended = self.record(_PROGRAM, "shared")
-        self.assertEqual((ended.status, self.scripts()), (3, []), ended.said)
+        self.assertEqual((ended.status, self.scripts()), (3, ["reactor_in_a_thread"]), ended.said)
         self.assertIn("a Deferred of the program is used in another thread, at ", ended.said)
 
     def test_under_the_reactor_of_asyncio(self) -> None:
