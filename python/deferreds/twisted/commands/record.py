@@ -192,7 +192,7 @@ def _keeping(arguments: argparse.Namespace, name: str, messages: Messages) -> Ke
 
 def _program(arguments: argparse.Namespace, messages: Messages) -> int:
     target, words = _target(arguments)
-    name = target.split(".")[-1] if arguments.module else Path(target).stem
+    name = target.split(".")[-1] if arguments.module else Path(os.path.abspath(target)).stem
     name = arguments.output or name
     kinds = KINDS - set(arguments.plain.split(","))
     keeping = _keeping(arguments, name, messages)

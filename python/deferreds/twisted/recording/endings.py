@@ -24,6 +24,9 @@ _ENDING = tuple(
     if hasattr(signal, name)
 )
 
+#: functions that the program may replace
+_kill, _own_number, _access = os.kill, os.getpid, os.access
+
 #: the signal at which a run is kept and goes on
 ASKING = signal.SIGUSR1
 
@@ -120,7 +123,7 @@ class Endings:
 
         @functools.wraps(function)
         def told(path: Any, *args: Any, **kwargs: Any) -> Any:
-            if not isinstance(path, (str, bytes, os.PathLike)) or os.access(path, os.X_OK):
+            if not isinstance(path, (str, bytes, os.PathLike)) or _access(path, os.X_OK):
                 self._watcher.becomes_another(how, sys._getframe(1))
             return function(path, *args, **kwargs)
 
@@ -174,7 +177,7 @@ class Endings:
         """A signal that nobody handles: the process ends by it."""
         if self._watcher.ends(signal.Signals(number).name, frame):
             self._signal(number, signal.SIG_DFL)
-            os.kill(os.getpid(), number)
+            _kill(_own_number(), number)
 
     def _on_asking(self, number: int, frame: Optional[FrameType]) -> None:
         """The signal that asks for the run so far. What the program has set for it follows."""
