@@ -25,6 +25,9 @@ _ENDING = tuple(
     if hasattr(signal, name)
 )
 
+#: functions that the program may replace
+_kill, _own_number, _access = os.kill, os.getpid, os.access
+
 #: the signal at which a run is kept and goes on
 ASKING = signal.SIGUSR1
 
@@ -136,7 +139,7 @@ class Endings:
 
         @functools.wraps(function)
         def told(path: Any, *args: Any, **kwargs: Any) -> Any:
-            if not isinstance(path, (str, bytes, os.PathLike)) or os.access(path, os.X_OK):
+            if not isinstance(path, (str, bytes, os.PathLike)) or _access(path, os.X_OK):
                 self._watcher.becomes_another(how, sys._getframe(1))
             return function(path, *args, **kwargs)
 
@@ -196,7 +199,7 @@ class Endings:
         finally:
             if ends_now:
                 self._signal(number, signal.SIG_DFL)
-                os.kill(os.getpid(), number)
+                _kill(_own_number(), number)
 
     def _on_asking(self, number: int, frame: Optional[FrameType]) -> None:
         """The signal that asks for the run so far. What the program has set for it follows."""
