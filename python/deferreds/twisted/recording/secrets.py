@@ -34,6 +34,9 @@ _HEAD = re.compile(
     r"(?P<quote>\\{0,8}[\"'])?\s{0,8}(?P<separator>=>|:=|[=:]|,(?<=[\"'],)|(?(option)\s|(?!)))"
     r"(?:\s{0,8}(?=[bBuUrR]{0,2}\\{0,8}[\"'\[({])|[^\S\r\n]{0,8})"
 )
+#: what stands before the first text of a pair, up to the name in it, and how much of that is looked at
+_FIRST = re.compile(r"(?:[(\[]\s{0,8}[bBuUrR]{0,2}\\{0,8}[\"']|--)[\w.-]{0,60}\Z")
+_MOST_BEFORE = 90
 #: of which one is in each
 _SEPARATORS = ("=", ":", "--", "',", '",')
 #: names of headers, after whose colon all up to the end of the line is secret
@@ -49,7 +52,7 @@ _END = re.compile(r"[\r\n]|\\[rn]|[\"'](?=[>)\]},]|$)")
 _END_OF_PHRASE = re.compile(r"[\r\n,;]|\\[rn]|[\"'](?=[>)\]},]|$)")
 
 #: what says of a value that there is none
-_HARMLESS = re.compile(r"(?i)none|null|nil|true|false|yes|no|on|off|undefined|\.\.\.|\*+|\d{1,3}|<secret_\d+>|<redacted>")
+_HARMLESS = re.compile(r"(?i)none|null|nil|true|false|yes|no|on|off|undefined|\.\.\.|\*+|\W{1,2}|\d{1,3}|<secret_\d+>|<redacted>")
 
 _SCHEMES = r"bearer|basic|digest|token|negotiate|ntlm|api-?key|oauth|aws4-hmac-sha256|hawk"
 _SCHEME = re.compile(rf"(?i)(?:{_SCHEMES})\s{{1,8}}")
@@ -66,7 +69,7 @@ _SHAPES: Tuple[Tuple[Tuple[str, ...], Pattern[str]], ...] = (
     ),
     (("digest ", "oauth ", "aws4-", "hawk "), re.compile(rf"\b{_WITH_PARAMETERS}\s{{1,8}}(\w{{1,40}}=[^\r\n]+)")),
     (("://",), re.compile(r"://[^\s/:@\"'<>]{0,200}:([^\s/\"'<>]+)@")),
-    (("private key",), re.compile(r"PRIVATE KEY(?: BLOCK)?-----([^<-]*)")),
+    (("private key",), re.compile(r"BEGIN [A-Z0-9 ]{0,30}PRIVATE KEY(?: BLOCK)?-----([^<-]*)")),
     (("eyj",), re.compile(r"\b(eyJ[A-Za-z0-9_-]{8,}\.[A-Za-z0-9_-]+\.[A-Za-z0-9_-]*)")),
     (("akia", "asia", "abia", "acca"), re.compile(r"\b((?:AKIA|ASIA|ABIA|ACCA)[0-9A-Z]{16})\b")),
     (("gh", "github_pat_"), re.compile(r"\b(gh[pousr]_[A-Za-z0-9]{20,}|github_pat_\w{20,})")),
@@ -160,9 +163,16 @@ def _named(text: str) -> Iterator[Span]:
         if head is None:
             return
         at = head.end()
+        if head.group("separator") == "," and head.group("option") is None and not _is_first(text, head.start()):
+            continue
         for span in _values(text, head):
             at = max(at, span.end)
             yield span
+
+
+def _is_first(text: str, at: int) -> bool:
+    """Whether a name that a comma follows is the first of a pair, and not a value, as in `"type": "password", "name": "a"`."""
+    return _FIRST.search(text, max(0, at - _MOST_BEFORE), at) is not None
 
 
 def _values(text: str, head: Match[str]) -> Iterator[Span]:
