@@ -28,7 +28,6 @@ _SEED = 7
 _SCRIPTS = 12
 
 _BY_HAND = "the result of a Deferred is set by hand"
-_TURNS = "a turn ran more than once, and did something else"
 
 
 def in_the_second_event() -> None:
@@ -89,16 +88,6 @@ def in_a_coroutine_that_is_caught() -> None:
     waits[1].errback(ValueError("no"))
 
 
-def in_the_second_turn() -> None:
-    """A loop's second turn does something else than its first."""
-    clock = task.Clock()
-    deferreds = [defer.Deferred(), defer.Deferred()]
-    loop = task.LoopingCall(lambda: deferreds.pop().callback(None))
-    loop.clock = clock  # type: ignore[assignment]
-    loop.start(1)
-    clock.advance(1)
-
-
 #: programs, of how many events the script is, of how many that ran, and why
 PROGRAMS: Tuple[Tuple[Callable[[], None], int, int, str], ...] = (
     (at_once, 0, 0, "a delay that is no number from 0"),
@@ -107,7 +96,6 @@ PROGRAMS: Tuple[Tuple[Callable[[], None], int, int, str], ...] = (
     (in_a_callback, 4, 5, _BY_HAND),
     (in_an_inline_body, 6, 7, _BY_HAND),
     (in_a_coroutine_that_is_caught, 4, 5, _BY_HAND),
-    (in_the_second_turn, 3, 4, _TURNS),
 )
 
 

@@ -212,15 +212,35 @@ class Stopped(Case):
         self.assertEqual((script["version"], script["classes"]), (1, [["SchedulerStopped", "SchedulerError"]]))
         self.assertEqual(run(said.text.encode()).output, said.output)
 
-    def test_the_first_is_refused_if_it_is_started_again(self) -> None:
+    def test_the_first_is_recorded_as_events_if_it_is_started_again(self) -> None:
         def program() -> None:
             clock = task.Clock()
             cooperator = cooperator_on(clock, 1)
-            cooperator.cooperate(work(2))
+            cooperator.cooperate(work(2)).whenDone().addErrback(lambda failure: None)
             cooperator.stop()
             cooperator.start()
+            cooperator.cooperate(work(2))
+            clock.advance(1)
 
-        self.assertEqual([(problem.reason, problem.kind) for problem in recorded(program).problems], [("Cooperator.start", "cooperator")])
+        said = self.said_of(program)
+        self.assertEqual([plainly.text for plainly in said.plainly], ["the first Cooperator is recorded as events: Cooperator.start"])
+        script = json.loads(said.text)
+        self.assertEqual(({"cooperator", "cooperators"} & script.keys(), words_of(script).count("later")), (set(), 2))
+
+    def test_those_by_name_stay_if_the_first_is_recorded_as_events(self) -> None:
+        def program() -> None:
+            clock = task.Clock()
+            delays = iter((1, 2, 3))
+            task.Cooperator(steps_of([1]), lambda tick: clock.callLater(next(delays), tick)).cooperate(work(2))
+            cooperator_on(clock, 1).cooperate(work(2))
+            for _ in range(6):
+                clock.advance(1)
+
+        said = self.said_of(program)
+        reason = "ticks that are due after different times, or at once"
+        self.assertEqual([plainly.text for plainly in said.plainly], [f"the first Cooperator is recorded as events: {reason}"])
+        script = json.loads(said.text)
+        self.assertEqual((script.get("cooperator"), len(script["cooperators"])), (None, 1))
 
 
 class AsEvents(RecordingCase):
@@ -274,7 +294,7 @@ class Unnamed(Case):
                 clock.advance(1)
 
         said = self.said_of(program)
-        self.assertEqual((said.unnamed, said.hindrance), ("Cooperator.start", ""))
+        self.assertEqual([plainly.text for plainly in said.plainly], ["further Cooperators are recorded as events: Cooperator.start"])
         script = json.loads(said.text)
         self.assertNotIn("cooperators", script)
         return list(script["events"])
@@ -342,7 +362,8 @@ class Unnamed(Case):
             clock.calls[1].func()  # type: ignore[attr-defined]
 
         said = recorded(program)
-        self.assertEqual((said.unnamed, said.hindrance), ("", "a tick that the program itself runs"))
+        hindrance = "further Cooperators can't be recorded as events: a tick that the program itself runs"
+        self.assertEqual([plainly.text for plainly in said.plainly], [hindrance])
         self.assertIn("cooperator", {problem.kind for problem in said.problems})
 
     def test_two_deferreds_hold_a_task(self) -> None:

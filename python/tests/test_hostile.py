@@ -17,7 +17,7 @@ from deferreds.twisted.recording.saying import Said
 from deferreds.twisted.running import be_quiet, run
 
 from .hostile import Program
-from .test_programs import TURNS, ours
+from .test_programs import ours
 
 _SEED = 1
 _SCRIPTS = 30
@@ -70,7 +70,7 @@ class Hostile(unittest.TestCase):
                 with self.subTest(level=level, number=number):
                     said = recorded(level, number)
                     if said.problems:
-                        self.assertTrue(all(problem.place for problem in said.problems if problem.reason != TURNS))
+                        self.assertTrue(all(problem.place for problem in said.problems))
                     whole += not said.problems
                     if said.script is not None:
                         self.assertIsNone(difference(said))

@@ -33,7 +33,6 @@ from deferreds.twisted.telling import KINDS
 
 PROGRAMS = Path(__file__).resolve().parent.parent / "data" / "programs" / "awkward"
 
-TURNS = "a turn ran more than once, and did something else"
 
 #: the programs that are refused, and why; all others are recorded
 REFUSED: Dict[str, str] = {
@@ -47,7 +46,6 @@ REFUSED: Dict[str, str] = {
     "finalizer_of_weak_reference": "a weak reference has a method of a Deferred as its callback",
     "gather_by_hand": "a gatherResults is fired by hand with a list that isn't shown in full",
     "inline_drops": FINALIZED,
-    "loop_of_other_values": TURNS,
     "subclass_adds": CALLED,
 }
 
@@ -57,7 +55,6 @@ OTHERS_REFUSED = {"finalizer_in_a_thread"}
 #: what a version of Twisted refuses or awaits and another one doesn't, so that the reason is its own
 BY_VERSION = {
     "inline_returns_a_deferred": ("a Deferred is fired with a Deferred", "an inline body gives a Deferred as its result"),
-    "loop_of_coroutine": (None, TURNS),
 }
 
 #: the recorded programs in which Twisted does what an entry of docs/TWISTED.md says, so that a line differs
@@ -127,8 +124,7 @@ class Programs(unittest.TestCase):
                     self.assertTrue(reasons)
                 elif path.stem in REFUSED:
                     self.assertEqual(reasons, {REFUSED[path.stem]})
-                    places = [problem.place for problem in said.problems if problem.reason != TURNS]
-                    self.assertTrue(all(f"{path.stem}.py:" in place for place in places))
+                    self.assertTrue(all(f"{path.stem}.py:" in problem.place for problem in said.problems))
                 elif path.stem in BY_VERSION and reasons:
                     self.assertLessEqual(reasons, set(BY_VERSION[path.stem]))
                 else:
@@ -208,9 +204,9 @@ class Programs(unittest.TestCase):
             with self.subTest(program=name):
                 self.assert_right(record(name, KINDS - {kind}).said)
 
-    def test_where_turns_differ_the_loop_is_named(self) -> None:
-        (problem,) = record("loop_of_other_values").said.problems
-        self.assertEqual((problem.place, problem.kind), ("loop of loop_line_10", "loop"))
+    def test_where_turns_differ_it_is_said_what_the_loop_is_recorded_as(self) -> None:
+        (plainly,) = record("loop_of_other_values").said.plainly
+        self.assertEqual(plainly.text, "loops are recorded as delayed calls: a turn did something else than the first one")
 
     def test_the_value_of_a_turn_is_told(self) -> None:
         said = record("loop_of_values").said

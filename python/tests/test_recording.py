@@ -410,8 +410,9 @@ class Refused(unittest.TestCase):
             clock.advance(1)
 
         said = recorded(program)
-        self.assertTrue(said.is_cut)
-        self.assertEqual(said.problems[0].kind, "loop")
+        self.assertEqual(said.problems, [])
+        self.assertEqual([plainly.what for plainly in said.plainly], ["loops"])
+        self.assertEqual(run(said.text.encode()).output, said.output)
 
     def test_what_earlier_twisteds_refuse(self) -> None:
         def fired() -> None:

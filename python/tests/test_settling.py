@@ -327,6 +327,11 @@ class Fixed(unittest.TestCase):
         self.assertEqual(tick.due - tick.at, 15_000)
 
 
+def _is_further(entry: Entry) -> bool:
+    """Whether it is a tick of another Cooperator than the first."""
+    return entry.is_further
+
+
 class Left(unittest.TestCase):
     """Ticks of further Cooperators that come from elsewhere, as where no times give their order."""
 
@@ -337,7 +342,7 @@ class Left(unittest.TestCase):
         """The times where these ticks are left out, but for some in which something happens. With them there are no times."""
         with self.assertRaises(Conflict):
             self.history.settled()
-        self.history.steps = without_ticks(self.history.steps, matters.__contains__)
+        self.history.steps = without_ticks(self.history.steps, _is_further, matters.__contains__)
         return self.history.settled()
 
     def test_a_call_between_ticks_that_another_has_scheduled(self) -> None:
@@ -514,7 +519,7 @@ class Replay(unittest.TestCase):
             simulated.run()
             steps = simulated.history.steps
             if leaves:
-                steps = without_ticks(steps, lambda step: bool(len(step.made) % 2))
+                steps = without_ticks(steps, _is_further, lambda step: bool(len(step.made) % 2))
             try:
                 settle(steps)
             except Conflict:

@@ -24,6 +24,32 @@ from twisted.internet.defer import Deferred
 
 from . import forked
 
+_LOOPS = """
+    from twisted.internet import defer, task
+    from twisted.trial import unittest
+
+    class Loops(unittest.TestCase):
+        def test_on_a_clock(self):
+            clock, numbers = task.Clock(), []
+            loop = task.LoopingCall(lambda: numbers.append(defer.Deferred().callback(len(numbers))))
+            loop.clock = clock
+            loop.start(0.1)
+            clock.pump([0.1] * 5)
+            defer.Deferred()
+
+        def test_on_the_reactor(self):
+            left = [None] * 4
+
+            def turn():
+                left.pop()
+                if not left:
+                    loop.stop()
+
+            loop = task.LoopingCall(turn)
+            defer.Deferred()
+            return loop.start(0.01)
+"""
+
 _HAS_PYTEST = importlib.util.find_spec("pytest") is not None
 
 #: pytest with the plugin
@@ -352,6 +378,13 @@ class PytestTest(TestingTest):
         self.assertNotIn("test_cases.Async.test_waits", self.recordings())
         self.assertGreater(self.assert_scripts_say_the_journals(), 5)
 
+    def test_loops_that_no_script_has_as_such(self) -> None:
+        self.write("test_loops.py", _LOOPS)
+        ran = self.pytest("--deferreds-record", self.out, "test_loops.py")
+        self.assertEqual((ran.status, len(ran.told)), (0, 2), ran.output)
+        self.assertNotIn("a script can't say this", ran.output)
+        self.assertEqual(self.assert_scripts_say_the_journals(), 2)
+
     def test_the_next_run_removes_what_this_one_has_left(self) -> None:
         self.write("test_a.py", "from twisted.internet.defer import Deferred\ndef test_a():\n    Deferred()\n")
         self.pytest("--deferreds-record", self.out, "test_a.py")
@@ -430,6 +463,13 @@ class TrialTest(TestingTest):
         )
         self.assertEqual(self.recordings(), sorted(f"test_cases.{name}" for name in told))
         self.assertEqual(self.assert_scripts_say_the_journals(), len(told))
+
+    def test_loops_that_no_script_has_as_such(self) -> None:
+        self.write("test_loops.py", _LOOPS)
+        ran = self.trial("--deferreds-record", self.out, "test_loops")
+        self.assertEqual((ran.status, len(ran.told)), (0, 2), ran.output)
+        self.assertNotIn("a script can't say this", ran.output)
+        self.assertEqual(self.assert_scripts_say_the_journals(), 2)
 
     def test_a_passing_run_that_leaves_nothing_ends_with_status_0(self) -> None:
         self.write("test_a.py", """

@@ -11,9 +11,9 @@ def work(steps, seconds):
         yield None
 
 
-def more(_):
-    return task.cooperate(work(5, 0.011)).whenDone()
+def more():
+    task.cooperate(work(5, 0.011)).whenDone().addBoth(lambda _: reactor.stop())
 
 
-task.cooperate(work(9, 0.001)).whenDone().addCallback(more).addBoth(lambda _: reactor.stop())
+task.cooperate(work(9, 0.001)).whenDone().addCallback(lambda _: reactor.callLater(0.01, more))
 reactor.run()

@@ -209,8 +209,8 @@ class Thing:
     alias: Optional["Thing"] = None
     #: whether a script declares it, so that no action binds its name anew
     declared = False
-    #: whether it is a further Cooperator, or a task of one
-    is_further = False
+    #: where it is noted what the object does by itself, if that is noted: a loop, a Cooperator, or a task of one
+    inner: Any = None
 
     def __init__(self, name: str, find_name: Optional[Callable[[], None]] = None) -> None:
         """`find_name` sets the name where that isn't known yet, and is called where it is asked for."""
@@ -258,8 +258,9 @@ class Action(List[Any]):
     caught = False
     #: the Deferred of the inline body in which such a one is logged
     helper: Optional[Record] = None
-    #: of what a further Cooperator does: after how many parts of lines it did what by itself, an action or a step
+    #: where an object does something by itself: after how many parts of lines it did what, and where this is noted of the object
     inner: Optional[List[Tuple[int, Any]]] = None
+    inner_of: Any = None
     #: the END that raises the failure which such an action raised
     raises: Any = None
     #: before which part of lines it begins, where it isn't among these itself
@@ -426,6 +427,9 @@ class Observer:
     #: how many times as many frames there may be on Python's stack where it is on
     stack_room = 1
 
+    #: whether it notes what loops and Cooperators do by themselves
+    notes_inner = False
+
     # what is seldom set: an object with few attributes of its own is made and read sooner
 
     #: what the instruments of a kind keep of this run. The clock is the program's, and isn't kept alive
@@ -478,6 +482,8 @@ class Observer:
         self.acting = False
         #: where Twisted did what an entry of docs/TWISTED.md names: how many parts were logged before, and the entry
         self.quirks: List[Tuple[int, Entry]] = []
+        #: the loops and Cooperators with which it did so, by where it is noted what they do by themselves
+        self.quirks_of: List[Tuple[Any, Entry]] = []
         #: the told time, where the clock is a real reactor
         self.pace: Any = None
         #: one object for all observers that take over from each other
@@ -524,8 +530,11 @@ class Observer:
         """Notes that Twisted does here, or where so many parts are logged, what an entry of the profile names."""
         self.quirks.append((len(self.parts) if place is None else place, entry))
 
-    def problem(self, reason: str, kind: Optional[str] = None) -> None:
-        """Notes what a script can't say: it may be told as the Python that objects of this kind are made of."""
+    def problem(self, reason: str, kind: Optional[str] = None, inner: Any = None) -> None:
+        """Notes what a script can't say: it may be told as the Python that objects of this kind are made of.
+
+        `inner`: where it is noted what the object does by itself.
+        """
 
     def place(self) -> str:
         """Where the program is, if that is known."""
@@ -758,8 +767,8 @@ class Observer:
         """A step of a task begins: its body."""
         return self.new_body("step")
 
-    def end_steps(self, steps: Any, body: Any, kind: str) -> None:
-        """A task has ended, in a step that has no body. `kind`: that of the problem, where this is one."""
+    def end_steps(self, steps: Any, body: Any, inner: Any) -> None:
+        """A task has ended, in a step that has no body. `inner`: where it is noted what its Cooperator does by itself."""
 
     def begin_inline(self, body: Any) -> bool:
         """The program is about to begin an inline body. Whether `end_inline_action` has to be called when it waits, or has ended."""
@@ -806,7 +815,7 @@ class Observer:
         return Action()
 
     def end_inner(self, action: Action, error: BaseException) -> None:
-        """What a Cooperator does by itself has failed, which is noted as this action."""
+        """What an object of Twisted's does by itself has failed, which is noted as this action."""
 
     # the clock
 

@@ -94,8 +94,9 @@ _MAKERS_OF_INLINE = ("_cancellableInlineCallbacks", "_handleCancelInlineCallback
 #: the errback by which the Deferred of a cancelled inline body begins to wait for a hidden one
 _HANDLERS_OF_CANCELS = ("handleCancel", "_handleCancelInlineCallbacks")
 
-#: by the names of their errbacks
+#: by the names of their errbacks; and of those that have none, by the names of their callbacks
 special_pairs: Dict[str, AddSpecial] = {}
+special_callbacks: Dict[str, AddSpecial] = {}
 
 
 def qualified(function: object) -> str:
@@ -420,8 +421,9 @@ def _add_odd(
         if special is not None and special(watcher, deferred, record, callback, errback, arguments):
             return
     if watcher.acting and watcher.quiet:
-        first, second = _own_side(watcher, record, callback), _own_side(watcher, record, errback)
-        _tell_pair(watcher, deferred, record, first, second, arguments, add)
+        special = special_callbacks.get(qualified(callback)) if errback is _failthru else None
+        if special is None or not special(watcher, deferred, record, callback, errback, arguments):
+            add_own_pair(watcher, deferred, record, callback, errback, arguments, add)
     else:
         action, first, second = _pair(watcher, record, callback, errback, arguments)
         watcher.act(action, _tell_pair, watcher, deferred, record, first, second, arguments, add)
@@ -491,6 +493,20 @@ def _tell_pair(
     tell_line = watcher.tell_line
     tell_line(("add ", record, None))
     add(deferred, callback, errback, arguments)
+
+
+def add_own_pair(
+    watcher: Observer,
+    deferred: Deferred[Any],
+    record: Record,
+    callback: Callable[..., Any],
+    errback: Callable[..., Any],
+    arguments: PairArguments,
+    add: AddAs = _add_as_callbacks,
+) -> None:
+    """Adds a pair of Twisted's own."""
+    first, second = _own_side(watcher, record, callback), _own_side(watcher, record, errback)
+    _tell_pair(watcher, deferred, record, first, second, arguments, add)
 
 
 def add_silently(

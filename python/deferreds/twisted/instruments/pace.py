@@ -143,9 +143,9 @@ class Pace:
         """A result will come, at a time that isn't known."""
         return self._make(Entry(len(self._waiting)))
 
-    def tick(self, delay: float, further: bool) -> Waiting:
+    def tick(self, delay: float, further: bool, owner: Any = None) -> Waiting:
         """A tick is scheduled, so many seconds from now: one of the first Cooperator, or of a further one."""
-        return self._make(Entry(len(self._waiting), tick=Tick(round(delay * UNITS), further)))
+        return self._make(Entry(len(self._waiting), tick=Tick(round(delay * UNITS), further, owner)))
 
     def hold_place(self) -> Waiting:
         """A call could be scheduled now that is due at once: `run_at_once` has it be so."""
@@ -159,7 +159,7 @@ class Pace:
         self._steps[-1].make(entry)
         return waiting
 
-    def start_loop(self, interval: float) -> Loop:
+    def start_loop(self, interval: float, owner: Any = None) -> Loop:
         """A loop is about to start.
 
         It is recorded to start at the next whole millisecond of the reactor's, or before a turn that is due by then, or with another that
@@ -169,7 +169,7 @@ class Pace:
         at = self._first_start() if step is self._steps[0] and not step.starts else self._next_start()
         if step.starts and at - step.starts[0].at < _APART:
             at = step.starts[0].at
-        loop = Loop(max(1, round(interval * UNITS)), at, self._watcher.place())
+        loop = Loop(max(1, round(interval * UNITS)), at, self._watcher.place(), owner)
         step.starts.append(loop)
         return loop
 
@@ -186,6 +186,9 @@ class Pace:
 
     def turn(self, loop: Loop, looping: Any, delay: float) -> Waiting:
         """The next turn of a loop is scheduled, so many seconds from now."""
+        asked = round(delay * UNITS)
+        if loop.is_loose:
+            return self._make(Entry(len(self._waiting), asked, loop))
         since = self._reactor.seconds() + delay - looping.starttime
         number = max(1, round(since / looping.interval) - loop.missed)
         if number > 1 and len(self._steps) == 1 and self._steps[0].starts == [loop]:
@@ -195,7 +198,7 @@ class Pace:
         loop.earliest = looping.starttime + (number + loop.missed) * looping.interval
         if number == 1 and loop in self._steps[-1].starts:
             self._start_late(loop, looping.starttime + loop.missed * looping.interval)
-        return self._make(Entry(len(self._waiting), loop=loop, turn=number))
+        return self._make(Entry(len(self._waiting), asked, loop, number))
 
     def _start_late(self, loop: Loop, started: float) -> None:
         """A loop that has started after the time at which it is recorded to, as on a busy machine, is recorded to start after that.
@@ -226,7 +229,7 @@ class Pace:
 
         Twisted asks the clock twice, so that turns which fall together would run in an order that nothing but chance gives.
         """
-        if waiting.entry.loop is not None:
+        if waiting.entry.is_turn:
             self._align(waiting.entry, call)
 
     def _align(self, entry: Entry, call: Any) -> None:
@@ -275,7 +278,7 @@ class Pace:
         self._steps[-1].end(waiting.entry)
 
     def _forget_turn(self, entry: Entry) -> None:
-        if entry.loop is not None:
+        if entry.loop is not None and entry.turn:
             self._calls.pop(entry.loop, None)
             self._turns.pop(_due_turn(entry, entry.loop), None)
 
@@ -297,12 +300,23 @@ class Pace:
         self._steps.insert(place + 1, step)
         self._advances[step] = advance
 
-    def leave_ticks(self, has_events: Callable[[Advance], bool]) -> None:
-        """Has ticks of further Cooperators come from elsewhere, those in which something happens: an event, or something is scheduled."""
-        kept = without_ticks(self._steps, lambda step: has_events(self._advances[step]))
+    def loosen(self, is_left: Callable[[Any], bool]) -> None:
+        """Has turns of loops that have such an owner be delayed calls that do nothing: what they do is done after them."""
+        for step in self._steps:
+            for loop in step.starts:
+                loop.is_loose = loop.is_loose or is_left(loop.owner)
+            step.loosen_turn(lambda entry: is_left(entry.owner))
+
+    def leave_ticks(self, is_left: Callable[[Any], bool], has_events: Callable[[Advance], bool]) -> None:
+        """Has ticks that have such an owner come from elsewhere, those in which something happens: an event, or something is scheduled."""
+        kept = without_ticks(self._steps, lambda entry: is_left(entry.owner), lambda step: has_events(self._advances[step]))
         for step in set(self._steps).difference(kept):
             self._advances.pop(step).is_told = False
         self._steps = kept
+
+    def is_running(self, waiting: Waiting) -> bool:
+        """Whether this is what the reactor has run last."""
+        return self._steps[-1].entry is waiting.entry
 
     def settle(self) -> Optional[Conflict]:
         """Sets the times of all lines and actions: why there are none, where no times give what happened."""

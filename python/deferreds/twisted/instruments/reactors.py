@@ -140,6 +140,7 @@ def _schedule_own(watcher: Observer, reactor: Any, delay: float, own: Own, call:
     made = _later(reactor, delay, _waiting_call(watcher, waiting, call, given))
     _keep_waiting(watcher, made, waiting)
     pace.align(waiting, made)
+    own.keep(made)
     return made
 
 

@@ -8,6 +8,7 @@ their times are floats. So what happened is noted in order, as steps, and times 
 | a call or a timer | after the delay that was asked for, and where that isn't the order in which calls ran, when it ran |
 | the result of a job | when it came |
 | a turn of a loop, a tick | when the language has it: it can't be moved |
+| a turn of a loop that is told as the delayed calls that it is made of | as it would be as a turn, or when it ran |
 
 Times are whole units, of which a second has `UNITS`. What is chosen is run once more on a clock like that of the language. A run whose
 order no times give is refused.
@@ -16,7 +17,7 @@ order no times give is refused.
 from __future__ import annotations
 
 from bisect import bisect_left, insort
-from typing import Callable, Dict, Iterator, List, NamedTuple, Optional, Sequence, Set, Tuple
+from typing import Any, Callable, Dict, Iterator, List, NamedTuple, Optional, Sequence, Set, Tuple
 
 UNITS = 1_000_000
 MILLISECOND = UNITS // 1000
@@ -32,15 +33,19 @@ _NOTHING: Key = (-1, -1, -1)
 
 
 class Conflict(Exception):
-    """No times give the order in which things happened: why, where in the program, and which kind of object is in the way."""
+    """No times give the order in which things happened: why, where in the program, and which kind of object is in the way.
 
-    def __init__(self, reason: str, place: str, kind: str) -> None:
+    `owner`: what that object was given as its owner.
+    """
+
+    def __init__(self, reason: str, place: str, kind: str, owner: Any = None) -> None:
         super().__init__(reason)
         self.reason = reason
         self.place = place
         self.kind = kind
         #: how many steps may have times
         self.steps = 0
+        self.owner = owner
 
 
 class Manner(NamedTuple):
@@ -80,19 +85,23 @@ OF_SEVERAL = (
 
 
 class Tick(NamedTuple):
-    """A tick: the delay that was asked for, and whether it is of another Cooperator than the first."""
+    """A tick: the delay that was asked for, whether it is of another Cooperator than the first, and who can be told without it."""
 
     delay: int
     further: bool
+    owner: Any = None
 
 
 class Loop:
     """A loop: its interval, the reactor's time at which it starts, and where the program starts it."""
 
-    def __init__(self, interval: int, at: int, place: str) -> None:
+    def __init__(self, interval: int, at: int, place: str, owner: Any = None) -> None:
         self.interval = interval
         self.at = at
         self.place = place
+        #: who can be told without it, and whether its turns are told as delayed calls
+        self.owner = owner
+        self.is_loose = False
         #: how many of its turns were missed before the beginning of the told time
         self.missed = 0
         #: the reactor's time, in seconds, before which Twisted doesn't have the turn be due for which it waits
@@ -122,11 +131,11 @@ class Entry:
         #: its place in the order of scheduling, which a call keeps that is moved, and how often it was
         self.order = order
         self.moved = moved
-        #: the delay that was asked for: none is for the result of a job
+        #: the delay that was asked for: none is for the result of a job, and for a tick
         self.delay = delay
         #: the same call before it was moved, where the delay counts from when that was due
         self.before = before
-        #: the loop whose turn it is, and which turn
+        #: the loop whose turn it is, and which turn: 0 is for one that isn't due a whole number of intervals after the start
         self.loop = loop
         self.turn = turn
         self.tick = tick
@@ -140,14 +149,24 @@ class Entry:
         self.after: Key = _NOTHING
 
     @property
+    def is_turn(self) -> bool:
+        """Whether it is a turn, and is told as one."""
+        return self.loop is not None and not self.loop.is_loose
+
+    @property
     def is_fixed(self) -> bool:
         """Whether the language works out when it is due."""
-        return self.loop is not None or self.tick is not None
+        return self.is_turn or self.tick is not None
 
     @property
     def is_further(self) -> bool:
         """Whether it is a tick of another Cooperator than the first."""
         return self.tick is not None and self.tick.further
+
+    @property
+    def owner(self) -> Any:
+        """Who can be told without it, if anybody."""
+        return self.loop.owner if self.loop is not None else self.tick.owner if self.tick is not None else None
 
     @property
     def key(self) -> Key:
@@ -181,24 +200,34 @@ class Step:
         """Something that waits is cancelled."""
         self.ended.append((entry, self.entry is not None and not self.closed))
 
-    def leave_ticks(self) -> bool:
-        """Leaves out ticks of further Cooperators. Gives whether it has run one: then it comes from elsewhere from now on."""
-        self.made = [entry for entry in self.made if not entry.is_further]
-        self.ended = [(entry, is_inside) for entry, is_inside in self.ended if not entry.is_further]
-        if self.entry is None or not self.entry.is_further:
+    def leave_ticks(self, is_left: Callable[[Entry], bool]) -> bool:
+        """Leaves out some ticks. Gives whether it has run one: then it comes from elsewhere from now on."""
+        self.made = [entry for entry in self.made if not (entry.tick is not None and is_left(entry))]
+        self.ended = [(entry, inside) for entry, inside in self.ended if not (entry.tick is not None and is_left(entry))]
+        if self.entry is None or self.entry.tick is None or not is_left(self.entry):
             return False
         self.entry = None
+        self._come_apart()
+        return True
+
+    def loosen_turn(self, is_left: Callable[[Entry], bool]) -> None:
+        """Has the turn that it runs be a delayed call that does nothing, if it is one of these: what it does is done after it."""
+        if self.entry is not None and self.entry.loop is not None and is_left(self.entry):
+            self.closed = True
+            self._come_apart()
+
+    def _come_apart(self) -> None:
+        """No advance runs what is scheduled and cancelled in it."""
         self.ended = [(entry, False) for entry, _ in self.ended]
         for entry in self.made:
             entry.inside = False
-        return True
 
 
-def without_ticks(steps: Sequence[Step], matters: Callable[[Step], bool]) -> List[Step]:
-    """The steps, of which those that run a tick of a further Cooperator come from elsewhere. Those in which nothing matters are left out."""
+def without_ticks(steps: Sequence[Step], is_left: Callable[[Entry], bool], matters: Callable[[Step], bool]) -> List[Step]:
+    """The steps, of which those that run a tick which is left out come from elsewhere. Those in which nothing matters are left out."""
     kept: List[Step] = []
     for step in steps:
-        is_tick = step.leave_ticks()
+        is_tick = step.leave_ticks(is_left)
         if not is_tick or step.made or step.ended or step.starts or matters(step):
             if is_tick:
                 kept[-1].closed = True
@@ -299,7 +328,7 @@ class _Settling:
     def __init__(self, steps: Sequence[Step], manner: Manner) -> None:
         self._steps = steps
         self._places = {step: place for place, step in enumerate(steps)}
-        self._turning = any(step.starts for step in steps)
+        self._turning = any(not loop.is_loose for step in steps for loop in step.starts)
         self._manner = manner
         for step in steps:
             for loop in step.starts:
@@ -360,7 +389,7 @@ class _Settling:
     def _make(self, entry: Entry) -> None:
         entry.at, entry.seen, entry.after = self._now, self._count, self._last
         loop = entry.loop
-        if loop is not None:
+        if loop is not None and entry.is_turn:
             entry.due = _next_turn(loop, self._now)
             self._fixed.add(entry)
         elif entry.tick is not None:
@@ -368,7 +397,8 @@ class _Settling:
             self._fixed.add(entry)
         elif entry.delay is not None:
             since = self._now if entry.before is None else entry.before.due
-            entry.due = max(self._now, since + entry.delay)
+            due = since + entry.delay if loop is None or entry.turn == 0 else loop.start + entry.turn * loop.interval
+            entry.due = max(self._now, due)
             self._asked.add(entry)
         else:
             entry.due = self._now
@@ -532,7 +562,7 @@ class _Settling:
                 return None if due else made
             due.discard(other.entry)
             if due or other.real == step.real:
-                made += [entry for entry in other.made if entry.loop is not None]
+                made += [entry for entry in other.made if entry.is_turn]
             place += 1
             if place == len(self._steps) or (other.closed and due):
                 return None if due else made
@@ -541,8 +571,8 @@ class _Settling:
 
     def _least(self, step: Step) -> int:
         """The time that is needed for what a step schedules: loops start then, and their next turns are as the reactor has them."""
-        starts = (loop.at for loop in step.starts)
-        return max([0, *starts, *(_reached(entry) for entry in step.made if entry.loop is not None), *self._after(step)])
+        starts = (loop.at for loop in step.starts if not loop.is_loose)
+        return max([0, *starts, *(_reached(entry) for entry in step.made if entry.is_turn), *self._after(step)])
 
     def _in_turn(self, step: Step) -> List[Step]:
         """The step, and those after it that the reactor has run in the same turn, with nothing from elsewhere among them."""
@@ -607,7 +637,7 @@ def _reached(entry: Entry, more: int = 0) -> int:
 
 def _conflict(entry: Entry, reason: str) -> Conflict:
     place = "" if entry.loop is None else entry.loop.place
-    return Conflict(reason, place, "loop" if entry.tick is None else "cooperator")
+    return Conflict(reason, place, "loop" if entry.tick is None else "cooperator", entry.owner)
 
 
 def _checked(steps: Sequence[Step]) -> Iterator[Step]:
@@ -631,7 +661,7 @@ def _checked(steps: Sequence[Step]) -> Iterator[Step]:
         if ran is not None:
             seen.remove(ran)
         for entry in step.made:
-            if entry.due < now or (entry.loop is not None and entry.due != _next_turn(entry.loop, now)):
+            if entry.due < now or (entry.loop is not None and entry.is_turn and entry.due != _next_turn(entry.loop, now)):
                 raise _conflict(entry, "it isn't due at its time")
             (seen if entry.inside else fresh).add(entry)
         for entry, _ in step.ended:

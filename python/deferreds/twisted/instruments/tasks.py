@@ -4,8 +4,8 @@ The first Cooperator of a run that gets a task has no name in its script, and ea
 its ticks. What a scheduler does is known once it has scheduled the first. Until then the first task is tried: if no tick reaches the
 clock, the Cooperator is recorded as the Python that it is made of.
 
-It also notes what a further Cooperator does by itself (`inner`). If no script has it by name, the run is recorded without it
-(`deferreds.twisted.recording.unnamed`).
+It also notes what a Cooperator does by itself (`inner`). If no script has it as such, the run is recorded without it
+(`deferreds.twisted.recording.hindsight`).
 """
 
 from __future__ import annotations
@@ -23,7 +23,7 @@ from ..profile import Entry
 from ..telling import Action, Line, Observer, Record, Thing, Time, observer_of
 from .clock import Own, leaves_calls, own_calls, tried
 from .deferreds import running_side
-from .inner import Inner, TickCall
+from .inner import Inner, OwnCall
 from .pace import is_real
 
 _Task = task.CooperativeTask
@@ -42,9 +42,6 @@ _remove = _Cooperator._removeTask
 _stop_all = _Cooperator.stop
 _start_all = _Cooperator.start
 
-#: the kind of what a script can't say of a further Cooperator, by name
-FURTHER = "further"
-
 
 class Tick(NamedTuple):
     """A tick of the Cooperator: how many steps it had, whether tasks were left after it, and the event in which it ran, if that is known."""
@@ -57,10 +54,13 @@ class Tick(NamedTuple):
 class Cooperating:
     """What is kept of a Cooperator of the run, or of several: one that has no tasks any more leaves its name to another of its kind."""
 
-    def __init__(self, cooperator: Any, name: Optional[str] = None) -> None:
+    def __init__(self, cooperator: Any, name: Optional[str] = None, inner: Optional[Inner] = None) -> None:
         self._cooperator = weakref.ref(cooperator)
-        #: its name, where the script names it
+        #: its name, where the script names it, and where it is noted what it does by itself
         self.thing = None if name is None else Thing(name)
+        self.inner = inner
+        #: whether it isn't the first one of the run
+        self.is_further = False
         #: the actions that make its tasks, while it has none
         self.unnamed: List[Action] = []
         self.delays: List[Time] = []
@@ -80,23 +80,13 @@ class Cooperating:
         #: where it was made, and after how many seconds its ticks are due
         self.made_at: Any = None
         self.delay = 0.0
-        #: of a further one on a Clock: the ticks that are scheduled, the last one last
-        self.calls: List[TickCall] = []
+        #: on a Clock: the ticks that are scheduled, the last one last
+        self.calls: List[OwnCall] = []
 
     @property
     def cooperator(self) -> Any:
         """The program's, as long as it has that."""
         return self._cooperator()
-
-    @property
-    def is_further(self) -> bool:
-        """Whether it isn't the first one of the run."""
-        return self.made_at is not None
-
-    @property
-    def kind(self) -> str:
-        """The kind of its problems."""
-        return FURTHER if self.is_further else "cooperator"
 
     def next_is(self, stepped: Any) -> bool:
         """Whether it is the turn of the one that is stepped, where nobody is skipped. One that was stopped with all others has no place."""
@@ -139,7 +129,7 @@ class Cooperating:
     def name_it(self, thing: Thing) -> None:
         """Has a name from the beginning of the run on."""
         self.thing = thing
-        thing.declared = True
+        thing.declared, thing.inner = True, self.inner
         for action in self.unnamed:
             action[0] = "cooperateIn"
             action.insert(2, thing)
@@ -151,7 +141,7 @@ class _Word(Thing):
 
     def __init__(self, cooperating: Cooperating, unnamed: str, named: str) -> None:
         super().__init__(unnamed)
-        self.is_further = cooperating.is_further
+        self.inner = cooperating.inner
         self._cooperating = cooperating
         self._named = named
 
@@ -168,9 +158,8 @@ class Cooperators:
     def __init__(self) -> None:
         self.first: Optional[Cooperating] = None
         self.further: List[Cooperating] = []
-        #: what further ones do by themselves, and where Twisted did with one what an entry of the profile names
-        self.inner = Inner()
-        self.quirks: List[Tuple[int, Entry]] = []
+        #: what further ones do by themselves, each of which is recorded by name, or none is
+        self.inner = Inner("cooperator")
 
     def all(self) -> List[Cooperating]:
         """All of them."""
@@ -186,7 +175,7 @@ class Known:
 
     def __init__(self, thing: Thing, steps: Any, cooperating: Cooperating) -> None:
         self.thing = thing
-        thing.is_further = cooperating.is_further
+        thing.inner = cooperating.inner
         self.steps = steps
         self.cooperating = cooperating
         self.held_by: Optional[Deferred[Any]] = None
@@ -223,35 +212,36 @@ def know(watcher: Observer, cooperating: Cooperating) -> None:
     cooperating.cooperator._dv_cooperating = (watcher, cooperating)
 
 
-# what a further Cooperator does by itself
-
-
-def _inner(watcher: Observer, cooperating: Cooperating) -> Optional[Inner]:
-    """Where it is noted what this Cooperator does by itself, if that is noted."""
-    return _cooperators(watcher).inner if cooperating.is_further else None
+# what a Cooperator does by itself
 
 
 def _act(watcher: Observer, cooperating: Cooperating, action: Action, call: Callable[..., Any], *args: Any) -> Any:
     """Performs a call of the program's on a Cooperator, or on a task of one."""
-    inner = _inner(watcher, cooperating)
+    inner = cooperating.inner
     return watcher.act(action, call, *args) if inner is None else inner.act(watcher, action, call, *args)
 
 
 def _in_pair(watcher: Observer, known: Known, side: int, call: Callable[..., Any], *args: Any) -> Any:
     """Performs what a side of the pair does by which a Deferred holds a task."""
-    if not known.pairs:
+    inner = known.cooperating.inner
+    if inner is None or not known.pairs:
         return call(*args)
     held_by = running_side() if len(known.pairs) > 1 else None
     place = next((place for place, (record, _) in enumerate(known.pairs) if record is held_by), 0)
     _, pair = known.pairs.pop(place)
-    return _cooperators(watcher).inner.in_pair(watcher, pair[side], call, *args)
+    return inner.in_pair(watcher, pair[side], call, *args)
 
 
 def _quirk(watcher: Observer, cooperating: Cooperating, entry: Entry) -> None:
     """Twisted does with a Cooperator here what an entry of the profile names."""
+    if cooperating.inner is not None:
+        cooperating.inner.quirk(watcher, entry)
     watcher.quirk(entry)
-    if cooperating.is_further:
-        _cooperators(watcher).quirks.append((len(watcher.parts), entry))
+
+
+def _refuse(watcher: Observer, cooperating: Cooperating, reason: str) -> None:
+    """No script can say this of a Cooperator that it has as such."""
+    watcher.problem(reason, "cooperator", cooperating.inner)
 
 
 def _refuse_error(watcher: Observer, cooperating: Cooperating, reason: str) -> None:
@@ -260,24 +250,23 @@ def _refuse_error(watcher: Observer, cooperating: Cooperating, reason: str) -> N
     If an entry of the profile was reached by now, that explains why such a script prints something else from there on.
     """
     if cooperating.is_further and not watcher.quirks:
-        watcher.problem(reason, FURTHER)
+        _refuse(watcher, cooperating, reason)
 
 
 def _note_scheduled(watcher: Observer, cooperating: Cooperating, delay: Time) -> None:
     """A tick is scheduled by the clock of the run."""
     cooperating.delays.append(delay)
-    inner = _inner(watcher, cooperating)
-    if inner is not None and watcher.pace is None:
-        cooperating.calls.append(inner.schedule(watcher, cooperating.made_at, delay))
+    if cooperating.inner is not None and watcher.pace is None:
+        cooperating.calls.append(cooperating.inner.schedule(watcher, cooperating.made_at, delay))
 
 
 def _cancelling(watcher: Observer, cooperating: Cooperating, call: Callable[[], object]) -> None:
     """Calls what may cancel a tick that is scheduled on a Clock, and notes whether it has."""
     call()
     for waiting in cooperating.calls:
-        if not waiting.waits:
+        if cooperating.inner is not None and not waiting.waits:
             cooperating.calls.remove(waiting)
-            _cooperators(watcher).inner.cancel(watcher, waiting)
+            cooperating.inner.cancel(watcher, waiting)
             return
 
 
@@ -305,7 +294,7 @@ def _instrumented_init(self: Any, iterator: Iterator[Any], cooperator: Any) -> N
     if cooperating is None:
         _try(watcher, self, iterator, cooperator)
         return
-    known = Known(watcher.thing("task"), watcher.new_body("steps", cooperating.is_further), cooperating)
+    known = Known(watcher.thing("task"), watcher.new_body("steps", cooperating.inner is not None), cooperating)
     action = Action(["cooperate", known.thing, known.steps])
     _bind(watcher, cooperating, self, iterator, known, action)
     _act(watcher, cooperating, action, _tell_made, watcher, cooperating, known, self, iterator)
@@ -339,6 +328,9 @@ def _begun(watcher: Observer, cooperator: Any) -> Optional[Cooperating]:
     if not cooperator._started or (watcher.cooperator is not None and watcher.cooperator.first is not None):
         return None
     first = Cooperating(cooperator)
+    if watcher.notes_inner:
+        first.made_at = _made_at(watcher, cooperator)
+        first.inner = Inner("cooperator")
     know(watcher, first)
     return first
 
@@ -355,11 +347,9 @@ def _begun_stopped(watcher: Observer, cooperator: Any) -> Optional[Cooperating]:
 
 def _named(watcher: Observer, cooperator: Any, made_at: Any) -> Cooperating:
     """A Cooperator gets a name."""
-    cooperating = Cooperating(cooperator)
-    thing = watcher.thing("cooperator", made_at)
-    thing.is_further = True
-    cooperating.name_it(thing)
-    cooperating.made_at = made_at
+    cooperating = Cooperating(cooperator, inner=_cooperators(watcher).inner)
+    cooperating.name_it(watcher.thing("cooperator", made_at))
+    cooperating.made_at, cooperating.is_further = made_at, True
     know(watcher, cooperating)
     return cooperating
 
@@ -444,10 +434,10 @@ def _own_tick(watcher: Observer, call: Callable[..., Any]) -> Optional[Own]:
     if cooperating is None:
         return None
     cooperating.seen = True
-    further = cooperating.is_further
+    further, inner = cooperating.is_further, cooperating.inner
     line = (cooperating.word("later tick", " "),)
     note = functools.partial(_note_scheduled, watcher, cooperating)
-    return Own(line, lambda pace, delay: pace.tick(delay, further), note, cooperating.keep)
+    return Own(line, lambda pace, delay: pace.tick(delay, further, inner), note, cooperating.keep)
 
 
 def _instrumented_reschedule(self: Any) -> None:
@@ -472,12 +462,12 @@ def _instrumented_reschedule(self: Any) -> None:
 def _tell_tick_alone(watcher: Observer, cooperating: Cooperating) -> None:
     """A tick was scheduled by something that isn't the clock of the run: it is due 1 from now."""
     cooperating.alone = True
-    if cooperating.is_further:
-        _cooperators(watcher).inner.refuse("a Cooperator whose ticks are scheduled by something other than the clock of the run")
+    if cooperating.inner is not None:
+        cooperating.inner.refuse("a Cooperator whose ticks are scheduled by something other than the clock of the run")
     if watcher.has_had_clock:
-        watcher.problem("a Cooperator beside a Clock that doesn't schedule it", cooperating.kind)
+        _refuse(watcher, cooperating, "a Cooperator beside a Clock that doesn't schedule it")
     if cooperating.cooperator._delayedCall is None:
-        watcher.problem("a scheduler of a Cooperator that gives nothing to cancel", cooperating.kind)
+        _refuse(watcher, cooperating, "a scheduler of a Cooperator that gives nothing to cancel")
     cooperating.delays.append(Time(1))
     watcher.tell(cooperating.word("later tick", " "), Time(cooperating.time + 1))
 
@@ -489,15 +479,15 @@ def _instrumented_tick(self: Any) -> None:
         _tick(self)
     elif watcher.quiet:
         if cooperating.alone:
-            watcher.problem("a tick inside Twisted", cooperating.kind)
+            _refuse(watcher, cooperating, "a tick inside Twisted")
         _run_tick(watcher, cooperating)
     else:
-        if cooperating.is_further:
-            _cooperators(watcher).inner.refuse("a tick that the program itself runs")
+        if cooperating.inner is not None:
+            cooperating.inner.refuse("a tick that the program itself runs")
         if watcher.frame is not watcher.top:
-            watcher.problem("a tick inside a body", cooperating.kind)
+            _refuse(watcher, cooperating, "a tick inside a body")
         if not cooperating.alone:
-            watcher.problem("a tick that the program itself runs", cooperating.kind)
+            _refuse(watcher, cooperating, "a tick that the program itself runs")
         watcher.act(Action(["advance", Time(1)]), _run_tick, watcher, cooperating)
 
 
@@ -509,19 +499,19 @@ def _run_tick(watcher: Observer, cooperating: Cooperating) -> None:
     cooperating.steps, cooperating.in_tick = 0, True
     event = watcher.happening()
     try:
-        if event is None or not cooperating.is_further:
+        if event is None or cooperating.inner is None:
             _tick(cooperating.cooperator)
         else:
-            _run_further(watcher, cooperating, event)
+            _run_noted(watcher, cooperating, cooperating.inner, event)
     finally:
         left = bool(cooperating.cooperator._tasks)
         cooperating.ticks.append(Tick(cooperating.steps, left, event))
         cooperating.in_tick = False
 
 
-def _run_further(watcher: Observer, cooperating: Cooperating, event: Action) -> None:
-    """Runs a tick of a further Cooperator, whose line was the last."""
-    inner, calls, clock = _cooperators(watcher).inner, cooperating.calls, watcher.clock
+def _run_noted(watcher: Observer, cooperating: Cooperating, inner: Inner, event: Action) -> None:
+    """Runs a tick, whose line was the last, and notes what the Cooperator does in it."""
+    calls, clock = cooperating.calls, watcher.clock
     tick = functools.partial(_tick, cooperating.cooperator)
     try:
         if not calls:
@@ -566,12 +556,12 @@ class _Asked:
     def __next__(self) -> Any:
         watcher = self.watcher
         cooperating = self.known.cooperating
-        body, inner = watcher.begin_step(self.known.steps), _inner(watcher, cooperating)
+        body, inner = watcher.begin_step(self.known.steps), cooperating.inner
         if inner is not None:
             inner.note(watcher, body)
         result = watcher.perform(body, "step", None, self._ask)
         if self.ended:
-            watcher.end_steps(self.known.steps, body, cooperating.kind)
+            watcher.end_steps(self.known.steps, body, inner)
             raise StopIteration
         self.known.held_by = result if isinstance(result, Deferred) else None
         return result
@@ -624,7 +614,7 @@ def _tell_ended(watcher: Observer, known: Known, cooperative: Any, state: Any, r
     if isinstance(state, task.TaskDone):
         watcher.texts.bind(result, known.thing, cooperative)  # other tasks may have the same iterator
     cooperating = known.cooperating
-    inner = _inner(watcher, cooperating)
+    inner = cooperating.inner
     if cooperative._completionState is not None:
         _quirk(watcher, cooperating, Entry.TASK_ENDED_TWICE)
     elif _cooperating(watcher, cooperative._cooperator) is not None:
@@ -673,7 +663,7 @@ def _hold(watcher: Observer, cooperative: Any, known: Known) -> None:
     record = watcher.record(held_by)
     watcher.tell("hold ", known.thing, " ", record)
     _pause(cooperative)
-    inner = _inner(watcher, known.cooperating)
+    inner = known.cooperating.inner
     if inner is not None:
         pair = watcher.new_body("callback", True), watcher.new_body("callback", True)
         known.pairs.append((record, pair))
@@ -719,7 +709,7 @@ def _instrumented_when_done(self: Any) -> Any:
 
 
 def _act_when_done(watcher: Observer, cooperative: Any, known: Known) -> Any:
-    action, inner = Action(["whenDone", None, known.thing]), _inner(watcher, known.cooperating)
+    action, inner = Action(["whenDone", None, known.thing]), known.cooperating.inner
 
     def made(deferred: Deferred[Any], record: Record) -> None:
         action[1] = record
@@ -750,9 +740,9 @@ def _instrumented_stop_all(self: Any) -> None:
         _stop_all(self)
         return
     if watcher.quiet:
-        watcher.problem("Cooperator.stop inside Twisted", cooperating.kind)
-        if cooperating.is_further:
-            _cooperators(watcher).inner.refuse("Cooperator.stop inside Twisted")
+        _refuse(watcher, cooperating, "Cooperator.stop inside Twisted")
+        if cooperating.inner is not None:
+            cooperating.inner.refuse("Cooperator.stop inside Twisted")
         _stop_all(self)
         return
     if cooperating.thing is None:
@@ -773,7 +763,7 @@ def _instrumented_start_all(self: Any) -> None:
         watcher = observer_of("cooperator")
         cooperating = _cooperating(watcher, self)
         if watcher is not None and not watcher.quiet and cooperating is not None:
-            watcher.problem("Cooperator.start", cooperating.kind)
+            _refuse(watcher, cooperating, "Cooperator.start")
     _start_all(self)
 
 

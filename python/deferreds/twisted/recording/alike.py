@@ -13,6 +13,9 @@ from .bodies import Body, Done, Run, Steps, Unsayable
 
 _FINEST = 10**9
 
+#: the actions that make what they name first, if that isn't a Deferred
+_MAKING = frozenset({"later", "loop", "lock", "semaphore", "queue", "cooperate", "cooperateIn"})
+
 _Pairs = List[Tuple[Any, Any]]
 
 
@@ -35,6 +38,13 @@ def first_body(body: Any) -> Any:
     return body
 
 
+def _first_thing(thing: Thing) -> Thing:
+    """What an earlier run of the same body made in its place."""
+    while thing.alias is not None:
+        thing = thing.alias
+    return thing
+
+
 class Alike:
     """Compares runs. However deep bodies lie in each other, this takes no room on the stack."""
 
@@ -42,6 +52,28 @@ class Alike:
         """`runs_of`: the runs of a body that count, and `done_in` what was done in such a run, of that which counts."""
         self._runs_of = runs_of
         self._done_in = done_in
+        #: what was changed: the object, its attribute, and what that was before
+        self._changed: List[Tuple[Any, str, Any]] = []
+        #: the actions that are the same and whose failures were caught
+        self._caught: List[Tuple[Action, Action]] = []
+
+    def undo(self) -> None:
+        """Has everything be as it was before runs were compared."""
+        for changed, name, before in reversed(self._changed):
+            setattr(changed, name, before)
+        self._changed.clear()
+        self._caught.clear()
+
+    def name_helpers(self) -> None:
+        """Has the helpers of actions whose failures were caught have the names of those that are the same in the first runs."""
+        for one, two in self._caught:
+            if one.helper is not None and two.helper is not None:
+                two.helper.alias = one.helper
+        self._caught.clear()
+
+    def _set(self, changed: Any, name: str, value: object) -> None:
+        self._changed.append((changed, name, getattr(changed, name)))
+        setattr(changed, name, value)
 
     def are_same(self, first: Run, other: Run) -> bool:
         """Whether two runs are the same. If so, what the other one has is known as what the first one has in its place."""
@@ -62,71 +94,64 @@ class Alike:
         if isinstance(one, Steps) and isinstance(two, Steps):
             return _paired(one.bodies, two.bodies)
         if isinstance(one, list) and isinstance(two, list):
+            self._bind(one, two)
             return _paired(one, two)
-        return [] if _is_same(one, two) else None
+        return [] if self._is_same(one, two) else None
 
     def _within_runs(self, one: Run, two: Run) -> Optional[_Pairs]:
         first, other = self._done_in(one), self._done_in(two)
         if len(first.actions) != len(other.actions):
             return None
-        if not all(map(_are_caught_alike, first.actions, other.actions)):
+        if not all(map(self._are_caught_alike, first.actions, other.actions)):
             return None
         return [(first.end, other.end), *zip(first.actions, other.actions)]
 
     def _within_bodies(self, one: Body, two: Body) -> _Pairs:
         if one is two:
             return []
-        two.alias = one
+        self._set(two, "alias", one)
         first, others = self._runs_of(one), self._runs_of(two)
         if not first:
-            one.runs = two.runs
+            self._set(one, "runs", two.runs)
             return []
         return [(first[0], other) for other in others]
+
+    def _are_caught_alike(self, one: Action, two: Action) -> bool:
+        """Whether the failures of both were caught, or of neither."""
+        if one.caught and two.caught and one is not two:
+            self._caught.append((one, two))
+        return one.caught == two.caught
+
+    def _is_same(self, one: Any, two: Any) -> bool:
+        """Whether two parts that have no parts are the same."""
+        if isinstance(one, Record) and isinstance(two, Record):
+            return self._is_same_record(one, two)
+        if isinstance(one, Thing) and isinstance(two, Thing):
+            return _first_thing(one) is _first_thing(two)
+        if isinstance(one, Time) and isinstance(two, Time):
+            return exact(one.seconds) == exact(two.seconds)
+        if isinstance(one, Unsayable) and isinstance(two, Unsayable):
+            return True
+        return type(one) is type(two) and bool(one == two)
+
+    def _is_same_record(self, one: Record, two: Record) -> bool:
+        one, two = first_record(one), first_record(two)
+        if one is two:
+            return True
+        if one.made_in is None or two.made_in is None or one.made_in is two.made_in:
+            return False
+        if one.made_in.kind == "event" or two.made_in.kind == "event":
+            return False
+        self._set(two, "alias", one)
+        return True
+
+    def _bind(self, one: List[Any], two: List[Any]) -> None:
+        """What two actions make has the name of what the first one makes."""
+        if one and two and type(one[0]) is str and one[0] == two[0] and one[0] in _MAKING:
+            first, other = _first_thing(one[1]), _first_thing(two[1])
+            if first is not other:
+                self._set(other, "alias", first)
 
 
 def _paired(one: Sequence[Any], two: Sequence[Any]) -> Optional[_Pairs]:
     return list(zip(one, two)) if len(one) == len(two) else None
-
-
-def _are_caught_alike(one: Action, two: Action) -> bool:
-    """Whether the failures of both were caught, or of neither. The helper of the other one has the name of the first one's."""
-    if one.helper is not None and two.helper is not None and one is not two:
-        two.helper.alias = one.helper
-    return one.caught == two.caught
-
-
-def _is_same(one: Any, two: Any) -> bool:
-    """Whether two parts that have no parts are the same."""
-    if isinstance(one, Record) and isinstance(two, Record):
-        return _is_same_record(one, two)
-    if isinstance(one, Thing) and isinstance(two, Thing):
-        return _is_same_thing(one, two)
-    if isinstance(one, Time) and isinstance(two, Time):
-        return exact(one.seconds) == exact(two.seconds)
-    if isinstance(one, Unsayable) and isinstance(two, Unsayable):
-        return True
-    return type(one) is type(two) and bool(one == two)
-
-
-def _is_same_record(one: Record, two: Record) -> bool:
-    one, two = first_record(one), first_record(two)
-    if one is two:
-        return True
-    if one.made_in is None or two.made_in is None or one.made_in is two.made_in:
-        return False
-    if one.made_in.kind == "event" or two.made_in.kind == "event":
-        return False
-    two.alias = one
-    return True
-
-
-def _is_same_thing(one: Thing, two: Thing) -> bool:
-    while one.alias is not None:
-        one = one.alias
-    while two.alias is not None:
-        two = two.alias
-    if one is not two:
-        if one.declared or two.declared:
-            return False
-        two.alias = one
-    return True

@@ -177,6 +177,9 @@ def forget_bodies(part: Any) -> None:
             part.forget()
             waiting.extend(actions)
         elif isinstance(part, list):
+            if isinstance(part, Action) and part.inner_of is not None:
+                part.inner_of.forget()
+                part.inner = part.inner_of = None
             waiting.extend(part)
         elif isinstance(part, Steps):
             waiting.extend(part.bodies)

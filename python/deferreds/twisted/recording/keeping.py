@@ -56,7 +56,7 @@ class Keeping:
     def keep(self, said: Said, how: str, earlier: int = 0) -> Status:
         """Keeps a run that ended so, and before which so many events were, which aren't kept. What can't be kept is reported."""
         if said.refusals or said.script is None:
-            self._refuse(said.refusals, said.hindrance)
+            self._refuse(said.refusals, said)
             return self._write(said, how, earlier) if said.is_cut else self._write_refused(said, how, earlier)
         if said.is_empty:
             self._tell_nothing()
@@ -90,13 +90,13 @@ class Keeping:
         else:
             self.messages.say("nothing was recorded: the program has used no Deferreds")
 
-    def _refuse(self, refusals: Sequence[Problem], hindrance: str) -> None:
+    def _refuse(self, refusals: Sequence[Problem], said: Said) -> None:
         for problem in dict.fromkeys(problem.said for problem in refusals):
             at = f", at {problem.place}" if problem.place else ""
             plainly = f" (--plain {problem.kind} tells it as what it is made of)" if problem.kind else ""
             self.messages.say(f"a script can't say this: {problem.reason}{at}{plainly}")
-        if hindrance:
-            self.messages.say(f"further Cooperators can't be recorded as events: {hindrance}")
+        for hindrance in (one for one in said.plainly if not one.is_told):
+            self.messages.say(hindrance.text)
 
     def _write(self, said: Said, how: str, earlier: int) -> Status:
         until = _cut_by(how)
@@ -157,8 +157,8 @@ class Keeping:
     def _tell(self, said: Said, name: str, agreement: Agreement, until: str) -> None:
         for entry in sorted({entry.value for _, entry in said.quirks}):
             self.messages.say(f"Twisted does here what docs/TWISTED.md says of {entry}")
-        if said.unnamed:
-            self.messages.say(f"further Cooperators are recorded as events: {said.unnamed}")
+        for plainly in said.plainly:
+            self.messages.say(plainly.text)
         if said.tick:
             self.messages.say(f"1 tick = {said.tick}")
         if said.further_clocks:

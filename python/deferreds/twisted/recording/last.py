@@ -16,7 +16,6 @@ from typing import Any, Callable, List, Optional
 from twisted.internet.defer import Deferred
 
 from ..instruments.deferreds import result_of, take_over, take_over_canceller
-from ..instruments.tasks import FURTHER
 from ..telling import Action, Observer, Record
 from ..texts import NULL, Outcome
 from .bodies import Body, Run, Unsayable, forget_bodies
@@ -75,8 +74,8 @@ class LastRecorder(Recorder):
         if before is not None:
             self.earlier = before.earlier + len(before.events)
             self.texts = before.texts
-            problems = dict.fromkeys(problem.said for problem in before.problems)
-            self.problems = [problem for problem in problems if problem.kind != FURTHER]
+            problems = dict.fromkeys(problem.said for problem in before.problems if problem.inner is None)
+            self.problems = list(problems)
             self.texts.forget_kept()
             self.texts.ask_by(self.ask)
 

@@ -3,6 +3,7 @@
 from __future__ import annotations
 
 import contextlib
+import math
 import sys
 from types import ModuleType
 from typing import Any, Callable, Iterator, List, Tuple, cast
@@ -12,6 +13,12 @@ from twisted.internet import error, interfaces, task
 from zope.interface import implementer
 
 _MOST_ADVANCES = 100_000
+#: a shorter delay comes from what floats leave out, as where a loop has added its interval again and again: no script has such a time
+_SHORTEST = 1e-9
+#: how late a call is due for which that was asked
+_GRAIN = 0.001
+#: by how many floats what is added to a time is wrong at most, where both aren't of one size
+_MOST_WRONG = 4
 
 
 class NotVirtual(AttributeError):
@@ -30,6 +37,10 @@ class VirtualReactor(task.Clock):
     def __getattr__(self, name: str) -> Any:
         """Refuses what a virtual reactor hasn't."""
         raise NotVirtual(f"a reactor whose time is virtual (--virtual) has no {name}")
+
+    def callLater(self, delay: float, callable: Callable[..., Any], *args: Any, **kw: Any) -> Any:
+        """Calls later, as a real reactor does that looks at its clock once in a while."""
+        return super().callLater(_GRAIN if 0 < delay < _SHORTEST else delay, callable, *args, **kw)
 
     def callWhenRunning(self, f: Callable[..., Any], *args: Any, **kwargs: Any) -> None:
         """Calls when it runs."""
@@ -73,7 +84,16 @@ class VirtualReactor(task.Clock):
         """Time goes on to what is due next. Errors are lost, as a reactor logs them."""
         due = min(call.getTime() for call in self.calls)  # the list isn't in order, if a call was reset
         with contextlib.suppress(Exception):
-            self.advance(max(0, due - self.seconds()))
+            self.advance(self._until(due))
+
+    def _until(self, due: float) -> float:
+        """By how much time goes on so that it is this one."""
+        now, amount = self.seconds(), due - self.seconds()
+        for _ in range(_MOST_WRONG):
+            if now + amount >= due:
+                break
+            amount = math.nextafter(amount, math.inf)
+        return max(0, amount)
 
     def run_until(self, is_over: Callable[[], bool]) -> None:
         """Runs until something is over, or nothing waits."""

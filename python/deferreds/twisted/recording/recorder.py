@@ -55,6 +55,8 @@ class Problem(NamedTuple):
     kind: Optional[str]
     #: how many events had ended before it, where a script can be of these
     ended: Optional[int] = None
+    #: where it is noted what the object does by itself, if that is noted
+    inner: Any = None
 
     @property
     def said(self) -> "Problem":
@@ -116,6 +118,7 @@ class Recorder(Observer):
     texts: Values
 
     stack_room = STACK_ROOM
+    notes_inner = True
     #: how many events come before those by which the runs of bodies count, and how many parts of lines before those that are noted so
     preceding = preceding_parts = 0
     #: what watches where the text of an object is asked for, once one was
@@ -146,9 +149,9 @@ class Recorder(Observer):
         #: where clocks were first used that aren't that of the run
         self.further_clocks: List[str] = []
 
-    def problem(self, reason: str, kind: Optional[str] = None) -> None:
+    def problem(self, reason: str, kind: Optional[str] = None, inner: Any = None) -> None:
         """Notes what a script can't say."""
-        self.problems.append(Problem(reason, place(), kind, self.ended))
+        self.problems.append(Problem(reason, place(), kind, self.ended, inner))
 
     def note_further_clock(self) -> None:
         """Notes that a clock is used which isn't that of the run."""
@@ -175,7 +178,7 @@ class Recorder(Observer):
             forget_bodies(action)
         for record in self.records:
             record.made_in = record.side = record.body = None
-        everything: List[List[Any]] = [self.events, self.parts, self.records, self.failed, self.quirks, self.begins]
+        everything: List[List[Any]] = [self.events, self.parts, self.records, self.failed, self.quirks, self.begins, self.quirks_of]
         for kept in everything:
             kept.clear()
         self.spots.forget()
@@ -457,7 +460,7 @@ class Recorder(Observer):
         self.act(Action(["note", said]), self.tell, "note ", Text(compact(said), weight_of(said)))
 
     def end_inner(self, action: Action, error: BaseException) -> None:
-        """What a Cooperator does by itself has failed, which is noted as this action."""
+        """What an object of Twisted's does by itself has failed, which is noted as this action."""
         action.raised = self.texts.failure(error).text
         if self.frame.kind not in ("event", "inline"):
             self.parts.append(Failed(action))
@@ -600,11 +603,11 @@ class Recorder(Observer):
         steps.bodies.append(body)
         return body
 
-    def end_steps(self, steps: Any, body: Any, kind: str) -> None:
-        """A task has ended, in a step that has no body. `kind`: that of the problem, where this is one."""
+    def end_steps(self, steps: Any, body: Any, inner: Any) -> None:
+        """A task has ended, in a step that has no body. `inner`: where it is noted what its Cooperator does by itself."""
         steps.bodies.remove(body)
         if body.runs[0].actions:
-            self.problem("a task acts in the step in which it ends", kind)
+            self.problem("a task acts in the step in which it ends", "cooperator", inner)
 
     def begin_inline(self, body: Any) -> bool:
         """The program is about to begin an inline body. Whether it does so in another one, so deep that a script may have to declare it."""

@@ -9,13 +9,14 @@ import math
 from bisect import bisect_left, bisect_right
 from fractions import Fraction
 from itertools import accumulate, compress, count
-from typing import Any, Dict, Iterator, List, Optional, Sequence, Set, Tuple, Union
+from typing import Any, Dict, Iterator, List, NamedTuple, Optional, Sequence, Set, Tuple, Union
 
 from ...language import LANGUAGE
 from .. import grammar
 from ..classes import is_built_in
+from ..instruments.inner import Inner
 from ..instruments.settling import Conflict
-from ..instruments.tasks import FURTHER, Cooperating, Cooperators
+from ..instruments.tasks import Cooperating, Cooperators
 from ..profile import Entry
 from ..script import nodes
 from ..telling import Action, Advance, Begun, Ended, Failed, Part, Record, Thing, Time
@@ -24,11 +25,11 @@ from .again import hide_again
 from .alike import Alike, exact, first_body, first_record
 from .bodies import Body, Done, Run, Steps, Unsayable, bodies_of, deepest, in_words
 from .declaring import MOST_OF_EVENT, Declared
+from .hindsight import Hindsight
 from .outcomes import outcomes_of
 from .places import FreeNames, name_of_spot
 from .recorder import Problem, Recorder
 from .ticking import Uneven, changes_of, places_of
-from .unnamed import CannotTell, without_further
 from .whereabouts import Acted, actions_of, whereabouts_of
 
 _FINEST = 10**9
@@ -53,6 +54,21 @@ class CannotSay(Exception):
     """The language has no words for it."""
 
 
+class Plainly(NamedTuple):
+    """Which objects are told as what they are made of, and why; or why they can't be, where that is needed."""
+
+    what: str
+    why: str
+    as_what: str
+    is_told: bool
+
+    @property
+    def text(self) -> str:
+        """This, in words."""
+        verb = "can't be" if not self.is_told else "are" if self.what.endswith("s") else "is"
+        return f"{self.what} {verb} recorded as {self.as_what}: {self.why}"
+
+
 class Said:
     """A recorded run, said."""
 
@@ -64,12 +80,15 @@ class Said:
         self._recorder = recorder
         self._scale = 1
         self.problems: List[Problem] = []
-        #: why further Cooperators aren't in the script, where it is of a run that has some
-        self.unnamed = ""
-        #: what stands in the way of that, where it does
-        self.hindrance = ""
-        #: by how many events have ended of those by which runs count, how many of the recorded ones; None: as many
-        self._counts = counts
+        #: why loops and Cooperators aren't in the script as such, where it is of a run that has some; or what stands in the way of that
+        self.plainly: List[Plainly] = []
+        #: what is left out so, and what can't be, each with why
+        self._left: Dict[Inner, str] = {}
+        self._stuck: Dict[Inner, str] = {}
+        self._hindsight = Hindsight(recorder, counts)
+        #: the loops whose turns differ, and the bodies of each event, each before those that lie in it; None: it can't be said
+        self._differing: Dict[Inner, str] = {}
+        self._found: Optional[List[Sequence[Body]]] = None
         #: those of the problems that are of the size of the whole run alone: the script is of its beginning
         self.too_large: List[Problem] = []
         #: whether the script is of the beginning of the run, since it can't say what comes next
@@ -80,28 +99,23 @@ class Said:
         self._tick_units: Dict[int, int] = {}
         #: the Cooperators that are named in the script, by the numbers of Python for their names
         self._used: Set[int] = set()
-        conflict = self._settle()
-        self._change_units()
-        if self._leave_unnamed(conflict):
-            hide_again(self._recorder)
-            conflict = self._settle()
-            self._change_units()
-        self._note_problems(conflict)
         #: how many events the script has
-        self.events = self._count_events()
-        self._alike = Alike(self._runs, self._done)
-        #: the bodies that the script declares, and those of the event that is being said, by their numbers of Python
-        self._declared = Declared()
-        #: the place of the event that is being said
-        self._saying: Optional[int] = None
-        self._said: Dict[int, Any] = {}
+        self.events = 0
         #: by the numbers of Python for actions that add a pair which only fires another Deferred, what fires it
         self._chains: Dict[int, Action] = {}
+        self._alike = Alike(self._runs, self._done)
+        #: the place of the event that is being said
+        self._saying: Optional[int] = None
+        self._choose()
+        #: the bodies that the script declares, and those of the event that is being said, by their numbers of Python
+        self._declared = Declared()
+        self._said: Dict[int, Any] = {}
         self.records: List[Record] = []
         #: by the numbers of Python for the arrays of the script that are actions, these, and what was noted of them
         self.acted: Acted = {}
         self._name()
         self._number()
+        self._alike.name_helpers()
         self._find_scale()
         self.script = self._script()
         if self.refusals:
@@ -160,8 +174,8 @@ class Said:
         place = min(bisect_right(self.begins, line - 1), self.events) - 1
         ended = max((count for count in range(self._ended + 1) if self._counted(count) <= self._places[max(place, 0)]), default=0)
         self._declared.forget()
-        shorter = Said(self._recorder, ended, self._counts)
-        shorter.unnamed = self.unnamed
+        shorter = Said(self._recorder, ended, self._hindsight.counts)
+        shorter.plainly = self.plainly + shorter.plainly
         if place <= 0 or shorter.script is None or not 0 < shorter.events < self.events:
             return None
         problem = Problem(why, "", None)
@@ -226,23 +240,83 @@ class Said:
         self._leave_out_advances()
         self._change_units()
         place = next(place for place, event in enumerate(self._recorder.events) if event is after)
-        return place if self._counts is None else bisect_right(self._counts, place) - 1
+        counts = self._hindsight.counts
+        return place if counts is None else bisect_right(counts, place) - 1
 
-    def _leave_unnamed(self, conflict: Optional[Conflict]) -> bool:
-        """Leaves out further Cooperators, if no script has them by name. Gives whether it has."""
-        further = [one for one in self._cooperators() if one.is_further]
-        reasons = [problem.reason for problem in self._recorder.problems if problem.kind == FURTHER]
-        reasons += [] if conflict is None else [conflict.reason]
-        reasons += filter(None, map(self._lack, further))
-        if not further or not reasons:
-            return False
+    # what is told as what it is made of
+
+    def _choose(self) -> None:
+        """Has loops and Cooperators be told as what they are made of, as long as a script can't say some of them as such."""
+        while True:
+            self.problems.clear()
+            conflict = self._settle()
+            self._change_units()
+            self.events = self._count_events()
+            self._find_all_bodies()
+            leaving = self._leaving(conflict)
+            if not leaving:
+                break
+            self._alike.undo()
+            self._hindsight.leave(list(leaving))
+            self._recorder = self._hindsight.recorder
+            hide_again(self._recorder)
+            self._left.update(leaving)
+        self._note_problems(conflict)
+        self._note_plainly()
+
+    def _leaving(self, conflict: Optional[Conflict]) -> Dict[Inner, str]:
+        """What a script can't say as such and can say as what it is made of, each with why."""
+        reasons: Dict[Inner, str] = {}
+        for problem in self._recorder.problems:
+            if problem.inner is not None:
+                reasons.setdefault(problem.inner, problem.reason)
+        for cooperating in self._cooperators():
+            if cooperating.inner is not None and self._lack(cooperating):
+                reasons.setdefault(cooperating.inner, self._lack(cooperating))
+        for inner, why in self._differing.items():
+            reasons.setdefault(inner, why)
+        for inner, entry in self._recorder.quirks_of:
+            if not inner.unclear:
+                reasons.setdefault(inner, f"Twisted does what docs/TWISTED.md says of {entry.value}")
+        if conflict is not None:
+            in_the_way = self._in_the_way(conflict)
+            if in_the_way is not None:
+                reasons.setdefault(in_the_way, conflict.reason)
+        self._stuck.update((inner, inner.unclear) for inner in reasons if inner.unclear)
+        return {inner: why for inner, why in reasons.items() if not inner.unclear and inner not in self._left}
+
+    def _in_the_way(self, conflict: Conflict) -> Optional[Inner]:
+        """What may be left out because no times give the order of what happened: a loop, or else further Cooperators, or else the first."""
+        if conflict.kind == "loop" and conflict.owner is not None:
+            return conflict.owner  # type: ignore[no-any-return]
+        cooperating = [one for one in self._cooperators() if one.inner is not None and not one.inner.unclear]
+        chosen = next((one for one in cooperating if one.is_further), cooperating[0] if cooperating else None)
+        return None if chosen is None else chosen.inner
+
+    def _find_all_bodies(self) -> None:
+        """Finds the bodies of all events, and the loops whose turns differ."""
+        self._differing.clear()
+        self._chains.clear()
+        before = len(self.problems)
         try:
-            self._recorder, self._counts = without_further(self._recorder)
-        except CannotTell as hindrance:
-            self.hindrance = str(hindrance)
-            return False
-        self.unnamed = reasons[0]
-        return True
+            self._found = [self._find_bodies(action) for action in self._each_event()]
+            self._saying = None
+        except CannotSay:
+            self._found = None
+        if self._differing:
+            del self.problems[before:]
+
+    def _note_plainly(self) -> None:
+        """Notes what is told as what it is made of, and what would have to be and can't."""
+        for reasons, is_told in ((self._left, True), (self._stuck, False)):
+            loops = [why for inner, why in reasons.items() if inner.kind == "loop"]
+            if loops:
+                self.plainly.append(Plainly("loops", loops[0], "delayed calls", is_told))
+            further = self._hindsight.further
+            for inner, why in reasons.items():
+                if inner.kind != "loop":
+                    which = "further Cooperators" if inner is further else "the first Cooperator"
+                    self.plainly.append(Plainly(which, why, "events", is_told))
 
     def _lack(self, cooperating: Cooperating) -> str:
         """Why a script can't say the ticks of a Cooperator, or nothing, if it can."""
@@ -253,14 +327,14 @@ class Said:
 
     def _note_problems(self, conflict: Optional[Conflict]) -> None:
         """Notes what a script can't say of what was recorded."""
-        for problem in self._recorder.problems:
-            self.problems.append(problem._replace(kind="cooperator") if problem.kind == FURTHER else problem)
+        self.problems += [problem._replace(inner=None) for problem in self._recorder.problems]
         if conflict is not None:
             self._problem(conflict.reason, conflict.kind, conflict.place, self._settle_beginning(conflict))
 
     def _counted(self, events: int) -> int:
         """How many events are recorded, after so many of those by which runs count."""
-        return events if self._counts is None else self._counts[events]
+        counts = self._hindsight.counts
+        return events if counts is None else counts[events]
 
     def _count_events(self) -> int:
         """How many of the recorded events have ended.
@@ -405,9 +479,10 @@ class Said:
 
     def _script(self) -> Optional[Dict[str, Any]]:
         script: Dict[str, Any] = {"version": 1, "limit": _MOST_LIMIT}
+        if self._found is None:
+            return None
         try:
-            inner = [self._find_bodies(action) for action in self._each_event()]
-            events = [self._event(action, bodies) for action, bodies in zip(self._each_event(), inner)]
+            events = [self._event(action, bodies) for action, bodies in zip(self._each_event(), self._found)]
             self._saying = None
             self._say_cooperators(script)
         except CannotSay:
@@ -430,7 +505,8 @@ class Said:
     def _ended_before(self, place: int) -> int:
         """How many events have ended before one, of those by which runs count."""
         recorded = self._places[place]
-        return recorded if self._counts is None else bisect_right(self._counts, recorded) - 1
+        counts = self._hindsight.counts
+        return recorded if counts is None else bisect_right(counts, recorded) - 1
 
     def _script_before(self, refusals: Sequence[Problem]) -> Optional[Dict[str, Any]]:
         """The longest script of the beginning in which nothing is refused, if there is one."""
@@ -457,8 +533,8 @@ class Said:
         self.events = self._count_events()
         self._declared.forget()
         self.acted.clear()
-        self._chains.clear()
         self._used.clear()
+        self._find_all_bodies()
         return self._script()
 
     def _script_of_fewer(self) -> Optional[Dict[str, Any]]:
@@ -526,10 +602,24 @@ class Said:
         runs = self._runs(body)
         for other in runs[1:]:
             if not self._alike.are_same(runs[0], other):
+                inner = self._inner_of_turns(body, action)
+                if inner is not None:
+                    self._differing[inner] = "a turn did something else than the first one"
+                    return runs[:1]
                 kind = "loop" if body.kind == "turn" else None
                 ended = other.began - 1 + self._recorder.preceding
                 raise self._cannot(f"a {body.kind} ran more than once, and did something else", kind, in_words(action), ended)
         return runs
+
+    def _inner_of_turns(self, body: Body, action: Action) -> Optional[Inner]:
+        """Where it is noted what the loop does by itself whose turns are runs of this body, if it can be told as what it is made of."""
+        inner = action.inner_of if body.kind == "turn" else None
+        if not isinstance(inner, Inner):
+            return None
+        if inner.unclear:
+            self._stuck[inner] = inner.unclear
+            return None
+        return inner
 
     def _event(self, action: Action, bodies: Sequence[Body]) -> List[Any]:
         """An event, in which these bodies lie. If they do so too deep for a script, some are declared."""
