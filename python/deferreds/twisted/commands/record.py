@@ -196,7 +196,7 @@ def _keeping(arguments: argparse.Namespace, name: str, messages: Messages) -> Ke
 
 def _program(arguments: argparse.Namespace, messages: Messages) -> int:
     target, words = _target(arguments)
-    name = _name(arguments.output, target.split(".")[-1] if arguments.module else Path(target).stem)
+    name = _name(arguments.output, target.split(".")[-1] if arguments.module else Path(os.path.abspath(target)).stem)
     kinds = KINDS - set(arguments.plain.split(","))
     keeping = _keeping(arguments, name, messages)
     if arguments.last is None:

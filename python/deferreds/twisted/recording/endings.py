@@ -25,6 +25,9 @@ _ENDING = tuple(
     if hasattr(signal, name)
 )
 
+#: functions that the program may replace
+_kill, _own_number, _access, _now = os.kill, os.getpid, os.access, time.monotonic
+
 #: the signal at which a run is kept and goes on
 ASKING = signal.SIGUSR1
 
@@ -136,7 +139,7 @@ class Endings:
 
         @functools.wraps(function)
         def told(path: Any, *args: Any, **kwargs: Any) -> Any:
-            if not isinstance(path, (str, bytes, os.PathLike)) or os.access(path, os.X_OK):
+            if not isinstance(path, (str, bytes, os.PathLike)) or _access(path, os.X_OK):
                 self._watcher.becomes_another(how, sys._getframe(1))
             return function(path, *args, **kwargs)
 
@@ -188,15 +191,15 @@ class Endings:
 
     def _on_end(self, number: int, frame: Optional[FrameType]) -> None:
         """A signal that nobody handles: the process ends by it. One that comes later ends it at once, though the run is being kept."""
-        since, self._since = self._since, self._since or time.monotonic()
+        since, self._since = self._since, self._since or _now()
         ends_now = True
         try:
-            if since is None or time.monotonic() - since < _SAME_SECONDS:
+            if since is None or _now() - since < _SAME_SECONDS:
                 ends_now = self._watcher.ends(signal.Signals(number).name, frame)
         finally:
             if ends_now:
                 self._signal(number, signal.SIG_DFL)
-                os.kill(os.getpid(), number)
+                _kill(_own_number(), number)
 
     def _on_asking(self, number: int, frame: Optional[FrameType]) -> None:
         """The signal that asks for the run so far. What the program has set for it follows."""

@@ -6,9 +6,9 @@ told, since it wouldn't have been asked by itself.
 
 from __future__ import annotations
 
-import zlib
 from types import FunctionType
 from typing import Any, Callable, Dict, List, TypeVar
+from zlib import crc32  # (by its own name: the program may replace that of the module)
 
 from twisted.python.failure import Failure
 
@@ -267,7 +267,7 @@ def _as_text(failure: Dict[str, Any]) -> str:
 
 def _digest(data: bytes) -> str:
     """Eight digits that are the same for what is equal."""
-    return f"{zlib.crc32(data):08x}"
+    return f"{crc32(data):08x}"
 
 
 def _pretends(kind: type) -> bool:
