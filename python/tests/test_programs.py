@@ -23,7 +23,7 @@ from deferreds.twisted.instruments import install
 from deferreds.twisted.programs import Answer, Once
 from deferreds.twisted.recording.bodies import deepest
 from deferreds.twisted.recording.hiding import CHOICES, SECRETS
-from deferreds.twisted.recording.inside import CALLED, FINALIZED, MEDDLED
+from deferreds.twisted.recording.inside import CALLED, CLOSED, FINALIZED, MEDDLED
 from deferreds.twisted.recording.programs import PrintingNotes
 from deferreds.twisted.recording.reactor import VirtualReactor, in_place_of_the_real
 from deferreds.twisted.recording.recorder import ASKED, Recorder
@@ -39,6 +39,7 @@ TURNS = "a turn ran more than once, and did something else"
 REFUSED: Dict[str, str] = {
     "awaited_failure_used": "a failed Deferred that a coroutine has awaited is used again",
     "canceller_by_hand": CALLED,
+    "dropped_body_between": CLOSED,
     "error_text_fires": ASKED,
     "error_text_takes_a_lock": ASKED,
     "finalizer_between": FINALIZED,

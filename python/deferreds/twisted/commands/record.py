@@ -1,8 +1,8 @@
 """`./record [OPTION..] PROGRAM [ARGS..]`: runs a program that uses Twisted, and writes its run as a script and a journal.
 
 `-m MODULE` runs a module, and `--test MODULE.CLASS.METHOD` one test. All words after PROGRAM or MODULE are the program's. PROGRAM
-is a file, or the name of a Python script on the PATH. The program runs as it is. Times are those of the real reactor, unless
-`--virtual` puts another in its place; the command prints how long a tick of the script's clock is.
+is a file, a folder or a zip file with a __main__, or the name of a Python script on the PATH. The program runs as it is. Times are those
+of the real reactor, unless `--virtual` puts another in its place; the command prints how long a tick of the script's clock is.
 
 NAME.json is the script. NAME.journal is the journal and the outcomes by real Twisted. NAME.places.json says where in the program
 it happened. `--view` also writes NAME.html, a page of the run. NAME.recording lists these files. Without -o, NAME is the name of

@@ -37,6 +37,7 @@ _GENERATORS = inspect.CO_GENERATOR | inspect.CO_COROUTINE | inspect.CO_ASYNC_GEN
 #: why a script can't say what the program does inside Twisted's code
 CALLED = "Twisted's own code calls the program's, which uses Deferreds there"
 FINALIZED = "a finalizer or a log observer uses Deferreds inside Twisted's own code, which goes on after it"
+CLOSED = "a coroutine or generator that is dropped uses Deferreds in its finally, inside Twisted's own code, which goes on after it"
 MEDDLED = "a finalizer or a log observer uses what Twisted's own code works on"
 
 #: which kind may be recorded as what it is made of, by the action that Twisted runs
@@ -161,7 +162,11 @@ def is_uncalled(frame: FrameType) -> bool:
 
 def reason_of(frame: Optional[FrameType]) -> str:
     """Why this code, which no action calls, can't be recorded, where Twisted's own goes on after it."""
-    given = [] if frame is None else list(_arguments(frame))
+    if frame is None:
+        return FINALIZED
+    if frame.f_code.co_flags & _GENERATORS:
+        return CLOSED
+    given = list(_arguments(frame))
     number = next((one for one in given if isinstance(one, int)), None)
     if number is None or not any(isinstance(one, FrameType) for one in given):
         return FINALIZED
