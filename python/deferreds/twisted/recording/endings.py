@@ -26,7 +26,7 @@ _ENDING = tuple(
 )
 
 #: functions that the program may replace
-_kill, _own_number, _access = os.kill, os.getpid, os.access
+_kill, _own_number, _access, _now = os.kill, os.getpid, os.access, time.monotonic
 
 #: the signal at which a run is kept and goes on
 ASKING = signal.SIGUSR1
@@ -191,10 +191,10 @@ class Endings:
 
     def _on_end(self, number: int, frame: Optional[FrameType]) -> None:
         """A signal that nobody handles: the process ends by it. One that comes later ends it at once, though the run is being kept."""
-        since, self._since = self._since, self._since or time.monotonic()
+        since, self._since = self._since, self._since or _now()
         ends_now = True
         try:
-            if since is None or time.monotonic() - since < _SAME_SECONDS:
+            if since is None or _now() - since < _SAME_SECONDS:
                 ends_now = self._watcher.ends(signal.Signals(number).name, frame)
         finally:
             if ends_now:
