@@ -2,6 +2,7 @@
 
 from __future__ import annotations
 
+import re
 import tempfile
 import unittest
 from typing import List, Optional
@@ -85,6 +86,14 @@ class Reactors(ProgramTest):
 
     def test_the_last_events(self) -> None:
         self.recorded("on_reactor asyncio posts_of_threads", None, "--last", "20")
+
+    def test_tests_of_twisted(self) -> None:
+        measured = run(["-m", "deferreds.twisted", "measure", "--reactor", "asyncio", "twisted.test.test_threads"], ".", environment())
+        self.assertEqual(measured.returncode, 0, measured.stdout + measured.stderr)
+        [line] = [line for line in measured.stdout.splitlines() if line.startswith("| all ")]
+        tests, nothing, whole, same, *_ = map(int, re.findall(r"\d+", line))
+        self.assertGreater(whole, 10)
+        self.assertEqual((tests, same), (nothing + whole, whole))
 
     def test_calls_moves_and_posts_by_chance(self) -> None:
         for reactor, seeds in (("epoll", (1, 2)), ("asyncio", (3, 4, 5))):

@@ -4,7 +4,7 @@ It prints a row a module, whose sums docs/TWISTED.md has. The status is 0 exactl
 under it, except those that compare attributes that the recorder sets, and no difference lacks an entry in
 docs/TWISTED.md; 70: a module can't be loaded, the program can't be run, or Twisted isn't known. `python/measure --slower`
 prints how much slower a recorded program is, and `python/measure --slower-tests [MODULE..]` each test. A package in the place
-of a module stands for all of its modules `test_*`.
+of a module stands for all of its modules `test_*`. With `--reactor NAME` the tests that are compared run on that reactor.
 """
 
 from __future__ import annotations
@@ -18,6 +18,7 @@ import tempfile
 from typing import Iterable, Iterator, List, Optional, Sequence
 
 import twisted
+from twisted.application.reactors import NoSuchReactor, installReactor
 
 from ...arguments import Parser
 from ..instruments import install
@@ -93,6 +94,11 @@ def _module(name: str, program: object) -> List[Measured]:
 
 def _run(arguments: argparse.Namespace) -> int:
     program = ours(_command(arguments.ours))
+    if arguments.reactor is not None:
+        try:
+            installReactor(arguments.reactor)
+        except NoSuchReactor:
+            raise Broken(f"there is no reactor named {arguments.reactor}") from None
     with _folder_for_files():
         return _measure(arguments.modules or MODULES, program)
 
@@ -193,6 +199,7 @@ def main(words: List[str]) -> int:
     """The command."""
     parser = Parser(prog="measure", description=__doc__.split("\n", 1)[0])
     parser.add_argument("--ours", metavar="COMMAND", help="our program (deferreds, as it is built or installed)")
+    parser.add_argument("--reactor", metavar="NAME", help="run the tests on this reactor, as trial does with its option of that name")
     parser.add_argument("--slower", action="store_true", help="measure how much slower a recorded program is")
     parser.add_argument("--slower-tests", action="store_true", help="measure how much slower each recorded test is")
     parser.add_argument("--runs", metavar="N", type=_count, default=RUNS, help=f"how often each of these is run ({RUNS})")
