@@ -52,6 +52,11 @@ def no_twisted() -> Optional[str]:
     return None if twisted_python() else "no Python here has Twisted"
 
 
+def no_compiler_or_twisted() -> Optional[str]:
+    """What the sweep of the recorder lacks."""
+    return no_compiler() or no_twisted()
+
+
 class Stage(NamedTuple):
     """Some checks: their name, what they show, their commands, and what they lack."""
 
@@ -87,6 +92,8 @@ STAGES = [
     Stage("packages", "the wheel and the Debian package install and run", [unittests("python/packaging_tests", "-t", "python")]),
     Stage("types", "the types of the Python package", [["python/check_types"]], no_mypy),
     Stage("recorder", "the recorder, and scripts on real Twisted", [[_PYTHON, "python/tests/side_by_side.py"]], no_twisted),
+    Stage("keeping", "recordings are whole whatever fails while they are written, on a sample of programs",
+          [[_PYTHON, "faults/recorder_sweep.py", "--sample", "--growths", "10"]], no_compiler_or_twisted),
     Stage("conform", "real Twisted agrees with all rows, and with random scripts", [
         ["./conform", "--rows", "--many", "--", "./on_twisted"],
         ["./conform", "--random", "500", "--seed", "1", "--many", "--", "./on_twisted"],

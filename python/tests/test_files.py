@@ -4,6 +4,7 @@ from __future__ import annotations
 
 import errno
 import os
+import re
 import signal
 import tempfile
 import unittest
@@ -136,17 +137,16 @@ class Failing(FilesCase):
 
     def test_the_message_has_the_step_and_why(self) -> None:
         steps = {
-            ("open_file", 1): "run.recording can't be read: Too many open files",
-            ("open_file", 2): "run.json can't be opened: Too many open files",
-            ("write", 1): "run.json can't be written: No space left on device",
-            ("fsync", 1): "run.json can't be synced: Input/output error",
-            ("replace", 1): "run.recording can't get its name, and is in .run.recording.[0-9]+.tmp: Permission denied",
+            "open_file": "run.json can't be opened: Too many open files",
+            "write": "run.json can't be written: No space left on device",
+            "fsync": "run.json can't be synced: Input/output error",
+            "replace": "run.recording can't get its name, and is in .run.recording.[0-9a-f.]+.tmp: Permission denied",
         }
-        for (name, number), message in steps.items():
-            with self.subTest(name=name, number=number):
+        for name, message in steps.items():
+            with self.subTest(name=name):
                 self.begin(True)
-                # (the list is read once more before anything is written)
-                with Faulty(number, _raising(_CALLS[name])).in_place(name), mock.patch.object(Place, "_of_others", return_value=[]):
+                # (the list is read before anything is written, and the file's own digest is taken)
+                with Faulty(1, _raising(_CALLS[name])).in_place(name), mock.patch.object(Place, "_of_others", return_value=[]):
                     written = self.place().write(_NEW, {})
                 self.assertRegex(written.failures[0], message)
 
@@ -155,7 +155,7 @@ class Failing(FilesCase):
         with Faulty(1, _raising(errno.ENOSPC)).in_place("write"):
             written = self.place().write(_NEW, {})
         self.assertTrue(written.is_any)
-        self.assertRegex(written.name, f"^{tempfile.gettempdir()}/deferreds\\.[^/]+/run\\.{os.getpid()}$")
+        self.assertRegex(written.name, f"^{re.escape(tempfile.gettempdir())}/deferreds[^/]+/run.{os.getpid()}$")
         self.assertEqual(Path(f"{written.name}.json").read_text(encoding="utf-8"), _NEW[".json"])
         self.assertEqual(self.found(), _OLD)
 
@@ -192,7 +192,7 @@ class Others(FilesCase):
 
     def test_a_file_beside_the_halves(self) -> None:
         self.begin(True)
-        kept = self.folder / f".run.json.{os.getpid()}.tmp.mine"
+        kept = self.folder / f".run.json.{2**22 + 1}.tmp"
         kept.touch()
         self.place().write(_NEW, {})
         self.assertIn(kept, list(self.folder.iterdir()))
@@ -201,10 +201,11 @@ class Others(FilesCase):
         self.begin(False)
         target = self.folder / "target"
         target.write_text("mine", encoding="utf-8")
-        (self.folder / f".run.json.{os.getpid()}.tmp").symlink_to(target)
-        self.place().write(_NEW, {})
+        with mock.patch.object(replacing, "urandom", return_value=bytes(6)):
+            (self.folder / f".run.json.{os.getpid()}.{bytes(6).hex()}.tmp").symlink_to(target)
+            written = self.place().write(_NEW, {})
+        self.assertIn("run.json can't be opened: File exists", written.failures[0])
         self.assertEqual(target.read_text(encoding="utf-8"), "mine")
-        self.assertFalse((self.folder / "run.json").is_symlink())
 
     def test_a_pipe_in_the_place_of_a_file(self) -> None:
         self.begin(True)

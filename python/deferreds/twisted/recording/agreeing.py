@@ -79,6 +79,8 @@ def agreed(said: Said, asked: Optional[Program], has_ended: bool = True, twisted
         return Agreed(said, Agreement(False, f"not compared: {why}"))
     except OSError as error:
         return Agreed(said, Agreement(False, f"not compared: {error.strerror}"))
+    except MemoryError:
+        return Agreed(said, Agreement(False, "not compared: out of memory"))
     if answer.status < 0:
         return Agreed(said, Agreement(False, f"not compared: {answer.errors.strip() or 'no answer'}"))
     first = compared(answer, Answer(0, said.output, ""))

@@ -3,16 +3,16 @@
 from __future__ import annotations
 
 import contextlib
-import errno
 import json
 import os
 import tempfile
+from functools import partial
 from pathlib import Path
-from typing import Any, Dict, Iterable, List, Mapping, NamedTuple, Sequence, Tuple
+from typing import Any, Callable, Dict, Iterable, List, Mapping, NamedTuple, Optional, Sequence, Tuple
 
-from ...files import check_folder
+from ...files import check_folder, digest_of, read_plain
 from ...view.names import PLACES
-from .replacing import Failed, Halves, digest_of, place_left, read_plain, remove_left
+from .replacing import Failed, Halves, place_left, remove_left
 
 #: the file that says which files are the recording's own
 _LIST = ".recording"
@@ -22,8 +22,8 @@ _WRITER = "deferreds record"
 #: the list names some files and says a few facts
 _MOST_LIST = 1 << 20
 
-#: what is said of a list that isn't there, or is no plain file
-_NO_LIST = (errno.ENOENT, errno.ENOTDIR, errno.ELOOP, errno.EINVAL, errno.ENXIO, errno.EISDIR)
+#: how often it is tried to give files their names, if memory ends meanwhile
+_TRIES = 3
 
 #: before the name of a folder of this process in that for temporary files
 _ROOM = "deferreds."
@@ -38,11 +38,11 @@ class NoPlace(Exception):
 
 
 class _Listed(NamedTuple):
-    """What a list of files says: their digests, those of the files that they have replaced, and the process that has written it."""
+    """What a list of files says: their digests, those of the files that they have replaced, and how their halves are named."""
 
     digests: Dict[str, str]
     replaced: Dict[str, str]
-    process: int
+    halves: str
 
 
 class Written(NamedTuple):
@@ -65,6 +65,9 @@ class Place:
         self._wanted = self.name
         self._folder = os.getcwd()
         self._overwrites = overwrites
+        #: whether the list is that of the new recording, and what is left to do then
+        self._has_replaced = False
+        self._rest: Callable[[], List[str]] = list
 
     def check(self, endings: Iterable[str]) -> None:
         """Makes the folder if it isn't there.
@@ -114,13 +117,19 @@ class Place:
         try:
             room = tempfile.mkdtemp(prefix=_ROOM)
         except OSError as error:
-            return written._replace(failures=[*failures, f"no other folder can be made for it: {error.strerror}"])
+            return written._replace(failures=[*failures, f"no folder can be made for it: {error.strerror or error}"])
         self.name = Path(room, self._wanted.name + _own())
         again = self._write(files, facts)
+        if not again.is_any:
+            with contextlib.suppress(OSError):
+                os.rmdir(room)
         return again._replace(failures=[*failures, *again.failures])
 
     def what_stays(self) -> str:
-        """That the earlier recording is as it was, if there is one."""
+        """Which recording is whole, the earlier one or the new one, if there is one. Does what is left to do for that."""
+        if self._has_replaced:
+            self._finish()
+            return f"the new recording is whole: {self.shown('')}"
         earlier = self._wanted.with_name(self._wanted.name + _LIST)
         return f"the recording that was there is as it was: {self._short(self._wanted)}" if os.path.lexists(earlier) else ""
 
@@ -131,11 +140,8 @@ class Place:
         """Those of these files that are there and aren't the recording's own."""
         if self._overwrites:
             return []
+        digests = self._listed()
         there = [ending for ending in (*endings, _LIST) if os.path.lexists(self._path(ending))]
-        try:
-            digests = self._listed()
-        except Failed:
-            return there
         if not digests:
             return there
         return [ending for ending in there if ending != _LIST and digests.get(self._path(ending).name) != digest_of(self._path(ending))]
@@ -145,55 +151,56 @@ class Place:
         return self._read_list().digests
 
     def _read_list(self) -> _Listed:
-        """The list that is there; an empty one if it isn't there, or no recording wrote it. Raises Failed if it can't be read."""
-        path = self._path(_LIST)
+        """What the list says; nothing, if no recording wrote it: one writes files in its folder alone, whose names begin with its own."""
+        nothing = _Listed({}, {}, "")
         try:
-            text = read_plain(path, _MOST_LIST)
-        except OSError as error:
-            if error.errno in _NO_LIST:
-                return _Listed({}, {}, 0)
-            raise Failed(path.name, "can't be read", error) from None
-        try:
-            told = json.loads(text)
-            listed = _Listed(dict(told["files"]), dict(told.get("replaced", {})), int(told.get("process", 0)))
-            is_ours = told["written by"] == _WRITER
-        except (ValueError, KeyError, TypeError, RecursionError, OverflowError):
-            return _Listed({}, {}, 0)
-        are_own = all(map(self._is_own_name, (*listed.digests, *listed.replaced)))
-        return listed if is_ours and are_own else _Listed({}, {}, 0)
+            told = json.loads(read_plain(self._path(_LIST), _MOST_LIST))
+            listed = _Listed(dict(told["files"]), dict(told.get("replaced", {})), str(told.get("halves", "")))
+            is_own = told["written by"] == _WRITER and all(map(self._is_own_name, (*listed.digests, *listed.replaced)))
+        except (OSError, ValueError, KeyError, TypeError, RecursionError):
+            return nothing
+        return listed if is_own else nothing
 
     def _is_own_name(self, name: object) -> bool:
-        """Whether a recording of this name writes such a file: in the folder of the list, and with a name that begins with its own."""
         return isinstance(name, str) and name.startswith(f"{self.name.name}.") and "/" not in name and "\0" not in name
 
     def _tidy(self) -> None:
         """Ends what processes have begun that were killed while they wrote: files get their names, and others are removed."""
-        folder = self.name.parent
-        try:
-            listed = self._read_list()
-        except Failed:
-            return
-        if listed.process:
-            place_left(folder, listed.process, listed.digests)
+        folder, listed = self.name.parent, self._read_list()
+        if listed.halves:
+            place_left(folder, listed.halves, listed.digests)
             self._remove(listed.replaced, listed.digests)
         remove_left(folder, [self._path(ending).name for ending in (*ENDINGS, _LIST)])
 
     def _write(self, files: Mapping[str, str], facts: Mapping[str, Any]) -> Written:
+        replaced = self._listed()
         halves = Halves(self.name.parent)
         try:
-            replaced = self._listed()
             digests, failures = self._write_halves(halves, files)
-            listed = {"written by": _WRITER, "process": os.getpid(), **facts, "files": digests, "replaced": replaced}
+            listed = {"written by": _WRITER, "halves": halves.ending, **facts, "files": digests, "replaced": replaced}
             halves.write(self._path(_LIST).name, (json.dumps(listed, indent=1) + "\n").encode())
             halves.sync()
+            self._rest = partial(self._place, halves, digests, replaced)
             halves.place(self._path(_LIST).name)
+            self._has_replaced = True
         except Failed as why:
             halves.remove()
             return Written(self.shown(""), False, [self._said(why)])
         except BaseException:
             halves.remove()
             raise
-        return Written(self.shown(""), True, [*failures, *self._place(halves, digests, replaced)])
+        failures += self._finish()
+        return Written(self.shown(""), True, failures)
+
+    def _finish(self) -> List[str]:
+        """Does what is left to do once the list is that of the new recording. Gives what has failed. If memory ends, it tries again."""
+        why: Optional[Exception] = None
+        for _ in range(_TRIES):
+            try:
+                return self._rest()
+            except Exception as error:  # (MemoryError, of which Python makes a TypeError where it takes a path)
+                why = error
+        return [f"files can't get their names: {why}"]
 
     def _write_halves(self, halves: Halves, files: Mapping[str, str]) -> Tuple[Dict[str, str], List[str]]:
         """Writes the halves of all files, and gives their digests, and why those couldn't be written that may be missing."""
@@ -212,16 +219,13 @@ class Place:
     def _place(self, halves: Halves, digests: Mapping[str, str], replaced: Mapping[str, str]) -> List[str]:
         """Gives all halves their names, and removes files that only the earlier recording had. Gives what has failed."""
         failures: List[str] = []
-        for name in digests:
+        steps: List[Callable[[], None]] = [partial(halves.place, name) for name in digests]
+        steps += [partial(self._remove, replaced, digests), halves.sync]
+        for step in steps:
             try:
-                halves.place(name)
+                step()
             except Failed as why:
                 failures.append(self._said(why))
-        self._remove(replaced, digests)
-        try:
-            halves.sync()
-        except Failed as why:
-            failures.append(self._said(why))
         return failures
 
     def _remove(self, digests: Mapping[str, str], kept: Mapping[str, str]) -> None:

@@ -17,7 +17,7 @@ from .keeping import Keeping, Status
 from .last import LastRecorder
 from .messages import file_of
 from .originals import Originals
-from .recorder import Recorder
+from .recorder import Recorder, growth
 from .room import Reserve, memory_left
 from .saying import Said
 
@@ -72,14 +72,15 @@ class Keeper:
     def take_over(self, recorder: Recorder) -> None:
         """From here on this one records."""
         self._recorder = recorder
-        recorder.look, recorder.looks_at = self._look, _EACH_PARTS
+        growth.look, growth.looks_at = self._look, _EACH_PARTS
 
-    def _look(self) -> None:
+    def _look(self, recorder: Recorder) -> None:
         """Ends the recording before the program, if what memory is left is only enough to write it."""
-        recorder = self._recorder
-        if not recorder.is_between_events():
+        if recorder is self._recorder and not recorder.is_between_events():
             return
-        recorder.looks_at = len(recorder.parts) + _EACH_PARTS
+        growth.looks_at = len(recorder.parts) + _EACH_PARTS
+        if recorder is not self._recorder:
+            return
         left = memory_left()
         if left is None or left > len(recorder.parts) * _BYTES_OF_PART + _BYTES_OF_RUN:
             return
@@ -95,12 +96,12 @@ class Keeper:
 
     def keep(self, how: str, frame: Optional[FrameType] = None) -> Status:
         """Keeps the run so far, which ended so; the frame is that of the program, where that runs."""
-        if self.is_idle_child:
-            return Status.RECORDED
-        if self._ended_early is not None:
-            return self._ended_early
         is_busy, self._is_busy = self._is_busy, True
         try:
+            if self.is_idle_child:
+                return Status.RECORDED
+            if self._ended_early is not None:
+                return self._ended_early
             with self._originals, self._reserve.released():
                 end_elsewhere(self._recorder)
                 self._wait_for_writers()
@@ -108,6 +109,9 @@ class Keeper:
         except MemoryError:
             self._recorder.forget()
             self._keeping.say_lost("out of memory")
+            return Status.NOT_WRITTEN
+        except Exception as error:  # (whatever it is, the program ends as it would)
+            self._keeping.say_lost(f"{type(error).__name__}: {error}")
             return Status.NOT_WRITTEN
         finally:
             self._is_busy = is_busy

@@ -115,7 +115,8 @@ class Keeping:
         self._tell(said, written.name, agreement, until)
         if agreement.is_wrong or said.is_cut:
             return Status.REFUSED
-        return Status.NOT_WRITTEN if written.failures else Status.RECORDED
+        lacks_page = self._view and ".html" not in files
+        return Status.NOT_WRITTEN if written.failures or lacks_page else Status.RECORDED
 
     def _add_places_and_page(self, files: Dict[str, str], said: Said, places: Optional[str], refused: str = "") -> str:
         """Adds the places, and if it is wanted the page of the whole run. Gives how large that is, or nothing where there is none.
@@ -127,8 +128,13 @@ class Keeping:
             return ""
         problem = f"a script can't say this: {refused}. What is shown may lack it" if refused else "" if said.is_whole else _beginning(said)
         source = Source(self.place.name.name, True, "" if refused else said.text, places or "", said.tick, False, said.begins, problem)
-        run = run_of(source, said.whole_output)
-        files[".html"] = page_of(source, said.whole_output, run)
+        try:
+            run = run_of(source, said.whole_output)
+            files[".html"] = page_of(source, said.whole_output, run)
+        except (OSError, MemoryError) as error:
+            why = error.strerror if isinstance(error, OSError) else "out of memory"
+            self.messages.say(f"{self.place.shown('.html')} can't be made: {why}")
+            return ""
         return run.counts
 
     def _write_files(self, files: Dict[str, str], facts: Dict[str, Any], counts: str) -> Written:

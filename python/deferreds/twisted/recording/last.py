@@ -115,7 +115,10 @@ class LastRecorder(Recorder):
         self._took_over(following)
 
     def forget(self) -> None:
-        """Keeps nothing of what was recorded, nor of what stood."""
+        """Keeps nothing of what was recorded, nor of what stood, nor of the recorder before this one."""
+        if self.before is not None:
+            self.before.forget()
+            self.before = None
         for action in self._stood_events:
             forget_bodies(action)
         for record in self._stood_records:

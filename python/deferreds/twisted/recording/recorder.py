@@ -106,6 +106,22 @@ class Aside(Observer):
         self.quirks.clear()
 
 
+class Growth:
+    """After how many parts of lines, at the end of an event, it is to be looked what memory is left, and what does so.
+
+    (A recorder has as many attributes as Python finds soon.)
+    """
+
+    __slots__ = ("looks_at", "look")
+
+    def __init__(self) -> None:
+        self.looks_at = sys.maxsize
+        self.look: Callable[[Recorder], None] = lambda recorder: None
+
+
+growth = Growth()
+
+
 class Recorder(Observer):
     """Records a run of a program. It is on where the program's code runs.
 
@@ -123,9 +139,6 @@ class Recorder(Observer):
     preceding = preceding_parts = 0
     #: what watches where the text of an object is asked for, once one was
     _aside: Optional[Aside] = None
-    #: after how many parts of lines `look` is called between two events, and that
-    looks_at = sys.maxsize
-    look: Callable[[], None]
 
     def __init__(self, kinds: frozenset[str] = KINDS, redact: str = SECRETS) -> None:
         classes = Classes()
@@ -291,8 +304,8 @@ class Recorder(Observer):
             self.acting = False
             if run is self.top:
                 self.ended = len(self.events)
-                if len(parts) > self.looks_at:
-                    self.look()
+                if len(parts) > growth.looks_at:
+                    growth.look(self)
 
     def begin_plain(self, action: Action, inside: int) -> Any:
         """The program runs an action in which none of its code is called, while it runs no other. Gives what ends it.
@@ -328,8 +341,8 @@ class Recorder(Observer):
         self.acting = False
         if self.frame is self.top:
             self.ended = len(self.events)
-            if len(self.parts) > self.looks_at:
-                self.look()
+            if len(self.parts) > growth.looks_at:
+                growth.look(self)
 
     @switching
     def make(self, deferred: Any) -> None:

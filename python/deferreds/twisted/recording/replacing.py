@@ -1,8 +1,8 @@
 """Puts the files of a new recording in the place of an earlier one's: at each moment one of the two is whole.
 
-Each new file is a half first: `.NAME.PID.tmp`, beside the place of NAME. When all halves are written and synced, the half of the list
-becomes the list. From then on the new recording is whole: the list names its files and the process, so each file has its own name or
-that of its half. Until then the earlier one is.
+Each new file is a half first: `.NAME.ENDING`, beside the place of NAME. The ending has the process and a number that nobody can know
+before. When all halves are written and synced, the half of the list becomes the list. From then on the new recording is whole: the list
+names its files and that ending, so each file has its own name or that of its half. Until then the earlier one is.
 """
 
 from __future__ import annotations
@@ -11,12 +11,13 @@ import contextlib
 import errno
 import hashlib
 import re
-from os import O_CREAT, O_DIRECTORY, O_EXCL, O_NOFOLLOW, O_NONBLOCK, O_RDONLY, O_WRONLY
-from os import close, fstat, fsync, getpid, kill, listdir, replace, unlink, write
+from os import O_CLOEXEC, O_CREAT, O_DIRECTORY, O_EXCL, O_NOFOLLOW, O_RDONLY, O_WRONLY
+from os import close, fsync, getpid, kill, listdir, replace, unlink, urandom, write
 from os import open as open_file
 from pathlib import Path
-from stat import S_ISREG
 from typing import Iterable, Iterator, List, Mapping, NoReturn, Optional
+
+from ...files import digest_of
 
 #: how many bytes are written at once
 _PIECE = 1 << 20
@@ -45,14 +46,15 @@ class Halves:
 
     def __init__(self, folder: Path) -> None:
         self._folder = folder
-        self._process = getpid()
+        #: what the names of all halves end with
+        self.ending = f"{getpid()}.{urandom(6).hex()}.tmp"
         #: the names of the files whose halves are there
         self._names: List[str] = []
 
     def write(self, name: str, data: bytes) -> str:
         """Writes the half of a file, and syncs it. Gives the SHA-256 of the file."""
         path = self._folder / name
-        half = half_of(path, self._process)
+        half = half_of(path, self.ending)
         self._names.append(name)
         try:
             _write_file(half, data, path)
@@ -77,9 +79,11 @@ class Halves:
             close(folder)
 
     def place(self, name: str) -> None:
-        """Gives the half of this file the name of the file."""
+        """Gives the half of this file the name of the file, if it hasn't got it yet."""
+        if name not in self._names:
+            return
         path = self._folder / name
-        half = half_of(path, self._process)
+        half = half_of(path, self.ending)
         try:
             replace(half, path)
         except OSError as error:
@@ -89,19 +93,21 @@ class Halves:
     def remove(self) -> None:
         """Removes the halves that are left."""
         for name in self._names:
-            _remove(half_of(self._folder / name, self._process))
+            _remove(half_of(self._folder / name, self.ending))
         self._names.clear()
 
 
-def half_of(path: Path, process: int) -> Path:
-    """The half of a file that this process writes."""
-    return path.with_name(f".{path.name}.{process}.tmp")
+def half_of(path: Path, ending: str) -> Path:
+    """The half of a file, whose name has this ending."""
+    return path.with_name(f".{path.name}.{ending}")
 
 
-def place_left(folder: Path, process: int, digests: Mapping[str, str]) -> None:
+def place_left(folder: Path, ending: str, digests: Mapping[str, str]) -> None:
     """Gives the files of a recording their names whose halves are there, where its process ended before it could."""
+    if _ENDING.fullmatch(ending) is None:
+        return
     for name, digest in digests.items():
-        half = half_of(folder / name, process)
+        half = half_of(folder / name, ending)
         if digest_of(half) == digest:
             with contextlib.suppress(OSError):
                 replace(half, folder / name)
@@ -115,24 +121,8 @@ def remove_left(folder: Path, names: Iterable[str]) -> None:
             _remove(half)
 
 
-def digest_of(path: Path) -> str:
-    """The SHA-256 of a file; none, of what can't be read, or isn't a plain file."""
-    try:
-        return hashlib.sha256(read_plain(path)).hexdigest()
-    except OSError:
-        return ""
-
-
-def read_plain(path: Path, most: int = -1) -> bytes:
-    """What a plain file has, of which so many bytes are read at most. Raises OSError for anything else, as a pipe, which would be waited for."""
-    number = open_file(path, O_RDONLY | O_NONBLOCK | O_NOFOLLOW)
-    with open(number, "rb") as file:
-        if not S_ISREG(fstat(number).st_mode):
-            raise OSError(errno.EINVAL, "not a plain file")
-        return file.read(most)
-
-
-_HALF = re.compile(r"\.(.+)\.([0-9]{1,9})\.tmp")
+_ENDING = re.compile(r"([0-9]{1,9})\.[0-9a-f]{12}\.tmp")
+_HALF = re.compile(rf"\.(.+)\.{_ENDING.pattern}")
 
 
 def _halves_in(folder: Path) -> Iterator["tuple[Path, str, int]"]:
@@ -177,13 +167,8 @@ def _write_file(half: Path, data: bytes, path: Path) -> None:
 
 
 def _opened(half: Path) -> int:
-    """Opens a new file, which only its owner can read. One that a process of this number has left is replaced."""
-    flags = O_WRONLY | O_CREAT | O_EXCL | O_NOFOLLOW
-    try:
-        return open_file(half, flags, 0o600)
-    except FileExistsError:
-        unlink(half)
-        return open_file(half, flags, 0o600)
+    """Opens a new file, which only its owner can read."""
+    return open_file(half, O_WRONLY | O_CREAT | O_EXCL | O_NOFOLLOW | O_CLOEXEC, 0o600)
 
 
 def _remove(half: Path) -> None:
