@@ -697,7 +697,7 @@ class Behind(RecordingCase):
         self.assertRegex(agreement.text, "^behind unpause-at-zero of docs/TWISTED.md real Twisted prints line 1 otherwise: new #0 other and not new #0 ")
 
     def test_where_real_twisted_gives_no_answer_nothing_behind_the_entry_is_kept(self) -> None:
-        for judge, why in ((Fixed(None), "it can't be run"), (Fixed(Answer(-1, "", "", Lack("no answer within 5 seconds", True))), "no answer within 5")):
+        for judge, why in ((Fixed(None), "it can't be run"), (Fixed(Answer(-1, "", "", Lack("no answer within 5 seconds", True))), "no answer within 5"), (mock.Mock(answer=mock.Mock(side_effect=MemoryError)), "out of memory")):
             with self.subTest(why=why):
                 said, agreement = self.agreed(judge)
                 self.assertFalse(said.is_whole)

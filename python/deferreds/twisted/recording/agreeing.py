@@ -110,8 +110,8 @@ def judged_by_twisted(said: Said, entries: List[Entry], twisted: Twisted = real_
     """In what real Twisted differs from the journal when it runs the script of a run that came to these entries; None if it doesn't."""
     try:
         answer = twisted(Entry.ERROR_LEAVES_ADVANCE in entries).answer(said.text)
-    except Broken as why:
-        return Judged(None, f"nothing is compared, since real Twisted can't be asked: {why}")
+    except (Broken, OSError, MemoryError) as why:
+        return Judged(None, f"nothing is compared, since real Twisted can't be asked: {str(why) or 'out of memory'}")
     if answer.lack is not None or answer.status < 0:
         why_not = answer.lack.why if answer.lack is not None else answer.errors.strip() or "no answer"
         return Judged(None, f"nothing is compared, since real Twisted doesn't run the script: {why_not}")

@@ -172,7 +172,7 @@ class Said:
         This one isn't used any more.
         """
         place = min(bisect_right(self.begins, line - 1), self.events) - 1
-        ended = max((count for count in range(self._ended + 1) if self._counted(count) <= self._places[max(place, 0)]), default=0)
+        ended = self._ended_before(max(place, 0))
         self._declared.forget()
         shorter = Said(self._recorder, ended, self._hindsight.counts)
         shorter.plainly = self.plainly + shorter.plainly
