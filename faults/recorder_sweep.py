@@ -28,6 +28,11 @@ from recorder_faults import LIST, NAME, End, Fault, Kind, Program, digest, has_c
 
 HERE = Path(__file__).resolve().parent
 PYTHON = HERE.parent / "python"
+sys.path.insert(0, str(PYTHON))
+
+from deferreds.arguments import Parser  # noqa: E402
+from deferreds.ending import run_command  # noqa: E402
+
 PROGRAMS = PYTHON / "data" / "programs"
 
 #: where recordings are written: in memory, if there is such a folder, so that a sync takes no time
@@ -131,7 +136,7 @@ def sweep(words: Tuple[str, ...], has_old: bool, shim: Path, growths: int, findi
 
 
 def main() -> int:
-    parser = argparse.ArgumentParser(description=__doc__, formatter_class=argparse.RawDescriptionHelpFormatter)
+    parser = Parser(description=__doc__, formatter_class=argparse.RawDescriptionHelpFormatter)
     parser.add_argument("--cc", default=os.environ.get("CC", "cc"), metavar="COMPILER", help="the C compiler for the shim")
     parser.add_argument("--growths", type=int, default=40, metavar="N", help="how many allocations fail of each recording")
     parser.add_argument("--sample", action="store_true", help="take a few programs alone")
@@ -152,4 +157,4 @@ def main() -> int:
 
 
 if __name__ == "__main__":
-    sys.exit(main())
+    run_command(main, "recorder_sweep.py")
