@@ -66,7 +66,7 @@ class writing:
 
 
 class _Output(io.FileIO):
-    """The file of standard output: what can't be written to it raises OutputFailed, whoever prints."""
+    """The file of standard output: if it can't be written, each print raises OutputFailed."""
 
     def write(self, text: Buffer, /) -> int:
         with writing():

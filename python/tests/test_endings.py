@@ -680,7 +680,7 @@ class Behind(RecordingCase):
         self.assert_goes_together("run")
 
     def agreed(self, judge: Optional[Program]) -> Agreed:
-        """How a run goes together with its journal that comes to an entry in its second event, by a judge in the place of real Twisted."""
+        """How a run goes together with its journal that reaches an entry in its second event, by a judge in the place of real Twisted."""
         be_quiet()
         install()
         recorder = Recorder()

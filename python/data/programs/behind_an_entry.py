@@ -1,4 +1,4 @@
-"""Comes to an entry of docs/TWISTED.md, which is named, and then does what no script can express, unless it is told not to.
+"""Reaches an entry of docs/TWISTED.md, which is named, and then does what no script can express, unless it is told not to.
 
 That is to fire a copy of a Deferred that was fired.
 """

@@ -1,4 +1,4 @@
-"""Comes to an entry of docs/TWISTED.md (unpause-at-zero), and fires a copy of a Deferred that was fired in a turn of the reactor after that.
+"""Reaches an entry of docs/TWISTED.md (unpause-at-zero), and fires a copy of a Deferred that was fired in a turn of the reactor after that.
 
 No script can express the copy. Further Cooperators are recorded as events, since a task acts in the step in which it ends.
 """

@@ -17,7 +17,7 @@ def told(name):
 
 
 def looping(clock, function, *given, parts=2, now=True):
-    """A loop that is started, and whose end is told."""
+    """A loop that is started, and whose end is printed."""
     loop = task.LoopingCall(function, *given)
     loop.clock = clock
     loop.start(parts * PART, now).addBoth(told("ended"))

@@ -8,7 +8,7 @@ their times are floats. So what happened is noted in order, as steps, and times 
 | a call or a timer | after the delay that was asked for, and where that isn't the order in which calls ran, when it ran |
 | the result of a job | when it came |
 | a turn of a loop, a tick | when the language has it: it can't be moved |
-| a turn of a loop that is told as the delayed calls that it is made of | as it would be as a turn, or when it ran |
+| a turn of a loop that is recorded as the delayed calls that it is made of | as it would be as a turn, or when it ran |
 
 Times are whole units, of which a second has `UNITS`. What is chosen is run once more on a clock like that of the language. A run whose
 order no times give is refused.
@@ -85,7 +85,7 @@ OF_SEVERAL = (
 
 
 class Tick(NamedTuple):
-    """A tick: the delay that was asked for, whether it is of another Cooperator than the first, and who can be told without it."""
+    """A tick: the delay that was asked for, whether it is of another Cooperator than the first, and who can be recorded without it."""
 
     delay: int
     further: bool
@@ -99,7 +99,7 @@ class Loop:
         self.interval = interval
         self.at = at
         self.place = place
-        #: who can be told without it, and whether its turns are told as delayed calls
+        #: who can be recorded without it, and whether its turns are recorded as delayed calls
         self.owner = owner
         self.is_loose = False
         #: how many of its turns were missed before the beginning of the told time
@@ -150,7 +150,7 @@ class Entry:
 
     @property
     def is_turn(self) -> bool:
-        """Whether it is a turn, and is told as one."""
+        """Whether it is a turn, and is recorded as one."""
         return self.loop is not None and not self.loop.is_loose
 
     @property

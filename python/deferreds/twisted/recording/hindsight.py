@@ -282,7 +282,7 @@ class _Telling:
     # the lines
 
     def parts(self) -> List[Optional[Part]]:
-        """The parts of lines, without those of the objects, and with those of what these are told as."""
+        """The parts of lines, without those of the objects, and with those of what these are recorded as."""
         parts: List[Any] = list(self._recorder.parts)
         for begin, end in self._dropped:
             parts[begin:end] = [""] * (end - begin)
@@ -306,7 +306,7 @@ class _Telling:
                 advances.put_apart(own, parts, self._preceding, inner.words)
 
     def _put_lines_of_turn(self, parts: List[Any], turn: Turn) -> None:
-        """Puts the lines of a turn that is told as `maybeDeferred` and two pairs into their places."""
+        """Puts the lines of a turn that is recorded as `maybeDeferred` and two pairs into their places."""
         record = turn.record
         if record is None:
             return

@@ -55,7 +55,7 @@ class CannotSay(Exception):
 
 
 class Plainly(NamedTuple):
-    """Which objects are told as what they are made of, and why; or why they can't be, where that is needed."""
+    """Which objects are recorded as what they are made of, and why; or why they can't be, where that is needed."""
 
     what: str
     why: str
@@ -243,7 +243,7 @@ class Said:
         counts = self._hindsight.counts
         return place if counts is None else bisect_right(counts, place) - 1
 
-    # what is told as what it is made of
+    # what is recorded as what it is made of
 
     def _choose(self) -> None:
         """Has loops and Cooperators be told as what they are made of, as long as a script can't say some of them as such."""
@@ -307,7 +307,7 @@ class Said:
             del self.problems[before:]
 
     def _note_plainly(self) -> None:
-        """Notes what is told as what it is made of, and what would have to be and can't."""
+        """Notes what is recorded as what it is made of, and what would have to be and can't."""
         for reasons, is_told in ((self._left, True), (self._stuck, False)):
             loops = [why for inner, why in reasons.items() if inner.kind == "loop"]
             if loops:
