@@ -88,7 +88,7 @@ class Reactors(ProgramTest):
         self.assertIn("timeout #", self.same("asyncio_server").journal)
 
     def test_cooperators_and_other_kinds_as_what_they_are_made_of(self) -> None:
-        self.same("on_reactor asyncio cooperators_as_events")
+        self.same("on_reactor asyncio cooperators_as_events", has_order=False)
         self.same("on_reactor asyncio tick_around_a_call", has_order=False)
         self.same("on_reactor asyncio times_of_a_reactor", None, "--plain", ",".join(sorted(KINDS - {"clock"})))
 
