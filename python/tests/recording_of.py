@@ -2,6 +2,7 @@
 
 from __future__ import annotations
 
+import hashlib
 import json
 import os
 import shutil
@@ -78,6 +79,14 @@ class RecordingCase(unittest.TestCase):
         """What the list of a recording's files says."""
         facts: Dict[str, Any] = json.loads(self.text(f"{name}.recording"))
         return facts
+
+    def is_kept(self, name: str) -> bool:
+        """Whether a recording is there, and whole: its list gets its name before the other files do."""
+        try:
+            digests: Dict[str, str] = self.facts(name)["files"]
+            return all(hashlib.sha256((self.folder / file).read_bytes()).hexdigest() == digest for file, digest in digests.items())
+        except OSError:
+            return False
 
     def events(self, name: str) -> List[Any]:
         """The events of a script."""

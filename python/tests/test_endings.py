@@ -451,7 +451,7 @@ class Services(RecordingCase):
         self.assertIn("twistd.PID.json", ended.said)
         self.addCleanup(self.kill, int(self.text("runs")))
         os.kill(int(self.text("runs")), signal.SIGTERM)
-        self.wait_for((self.folder / f"{name}.recording").exists, "the end of the daemon")
+        self.wait_for(lambda: self.is_kept(name), "the end of the daemon")
         self.assert_goes_together(name)
         self.assertFalse((self.folder / "twistd.json").exists())
 
@@ -488,11 +488,9 @@ class Asked(RecordingCase):
 
     def has_deferreds(self, count: int) -> bool:
         """Whether the recording has so many Deferreds, and is whole."""
-        try:
-            listed = self.facts("asked")["events"]
-        except OSError:
+        if not self.is_kept("asked"):
             return False
-        return self.text("asked.journal").count("\nfire") == count and listed >= 2 * count
+        return self.text("asked.journal").count("\nfire") == count and self.facts("asked")["events"] >= 2 * count
 
     def test_it_goes_on(self) -> None:
         self.ask()
@@ -533,7 +531,7 @@ class InCalls(RecordingCase):
     def test_what_is_asked_in_the_midst_of_an_advance(self) -> None:
         process = self.wait_in_a_call()
         process.send_signal(signal.SIGUSR1)
-        self.wait_for((self.folder / "waits_in_a_call.recording").exists, "the run so far")
+        self.wait_for(lambda: self.is_kept("waits_in_a_call"), "the run so far")
         self.assert_of_the_beginning()
         self.goes_on.touch()
         ended = self.end(process)

@@ -46,7 +46,7 @@ class ReactorInAThread(RecordingCase):
         process = self.start(_PROGRAM, "waits", str(begun))
         self.wait_for(begun.exists, "the wait")
         process.send_signal(signal.SIGUSR1)
-        self.wait_for((self.folder / f"{_NAME}.recording").exists, "the run so far")
+        self.wait_for(lambda: self.is_kept(_NAME), "the run so far")
         self.assertEqual(self.facts(_NAME)["ended"], "asked by SIGUSR1")
         self.assert_goes_together(_NAME)
         process.send_signal(signal.SIGTERM)
