@@ -170,6 +170,8 @@ const TIMEOUT_BODY: Want = Want::Keyed(Keyed::Body(TIMEOUTS_SINCE));
 
 const BODIES: Want = Want::Array(Item::Body);
 
+const TURNS: Want = Want::Array(Item::Turn);
+
 const STATEMENTS: Want = Want::Array(Item::Statement);
 
 const WORK: Want = Want::Call(CallKind::Work);
@@ -371,7 +373,7 @@ pub const ACTION_FORMS: [Form<ActionWord>; 44] = [
     (
         ActionWord::Loop,
         "loop",
-        &[NEW_LOOP, NEW_DEFERRED, INTERVAL, BOOLEAN, BODY],
+        &[NEW_LOOP, NEW_DEFERRED, INTERVAL, BOOLEAN, TURNS],
         "[\"loop\",P,D,N,NOW,BODY]",
         1,
     ),

@@ -9,7 +9,8 @@ use Rattle.std.specs.Cmp.Lexicographic.{slice_cmp}
 use Rattle.std.proofs.lemmas.Bool.{and_parts, eqb-true}
 use Rattle.std.proofs.lemmas.Map.Text.{is_eq-slice_cmp}
 use Rattle.std.proofs.lemmas.Slice.Eq.{bytes_eq-Decides}
-use Rattle.serde_json.specs.Data.{Data, string, array, object, Items, no_items, item, Members, no_members, member}
+use Rattle.serde_json.specs.Data.{Data, null, boolean, number, string, array, object, Items, no_items, item, Members}
+use Rattle.serde_json.specs.Data.{no_members, member}
 use Rattle.serde_json.specs.Data.{depth}
 use Rattle.serde_json.specs.Find.{as_object, as_str, at, get_item, get_member}
 use Rattle.dv_value.specs.declared.classes.Class.{Class}
@@ -53,7 +54,8 @@ use Rattle.dv_grammar.specs.Grammar.{add_errback}
 use Rattle.dv_grammar.specs.Grammar.{add_both, add_callbacks, chain, pause, unpause, cancel, add_timeout}
 use Rattle.dv_grammar.specs.Grammar.{add_timeout_with, note, list}
 use Rattle.dv_grammar.specs.Grammar.{gather, maybe, lock, semaphore, acquire, release, run_with, queue, put, get, later}
-use Rattle.dv_grammar.specs.Grammar.{cancel_call, reset_call, delay_call, loop, stop_loop, cooperate, when_done}
+use Rattle.dv_grammar.specs.Grammar.{cancel_call, reset_call, delay_call, loop, loop_of_bodies, stop_loop, cooperate}
+use Rattle.dv_grammar.specs.Grammar.{when_done}
 use Rattle.dv_grammar.specs.Grammar.{pause_task, stop_task}
 use Rattle.dv_grammar.specs.Grammar.{resume_task, inline, thread, thread_in, units as units_rule, AreActions}
 use Rattle.dv_grammar.specs.Grammar.{no_actions, more_actions, IsDo, cooperate_in, units_in, stop_cooperator}
@@ -81,6 +83,7 @@ use Rattle.dv_forms.specs.declared.want.Item.TheVariants as item_of
 use Rattle.dv_why.specs.declared.question.Question.TheVariants as question
 use Rattle.dv_forms.specs.declared.want.Object.TheVariants as object
 use Rattle.dv_forms.specs.Wants.{a_deferred, a_class, a_cooperator, a_text, a_comment, a_body, item_want, key_want}
+use Rattle.dv_forms.specs.Wants.{want_for}
 use Rattle.dv_forms.specs.Wants.{keys_in}
 use Rattle.dv_forms.specs.Words.{own_forms, wants_in}
 use Rattle.dv_why.specs.Places.{nth}
@@ -115,8 +118,8 @@ record IsTwo (v n : ℕ) (w1 w2 : Want) (ds : Items) : Type 0 where
   a : Data
   b : Data
   items : ds ≡ item a (item b no_items)
-  one : IsFine v n w1 a
-  two : IsFine v n w2 b
+  one : IsFine v n (want_for w1 a) a
+  two : IsFine v n (want_for w2 b) b
 
 two_args : (v n : ℕ) (w1 w2 : Want) (ds : Items) → AreFine v n (w1 ∷ w2 ∷ []) ds → IsTwo v n w1 w2 ds
 two_args v n w1 w2 ds h =
@@ -129,9 +132,9 @@ record IsThree (v n : ℕ) (w1 w2 w3 : Want) (ds : Items) : Type 0 where
   b : Data
   c : Data
   items : ds ≡ item a (item b (item c no_items))
-  one : IsFine v n w1 a
-  two : IsFine v n w2 b
-  three : IsFine v n w3 c
+  one : IsFine v n (want_for w1 a) a
+  two : IsFine v n (want_for w2 b) b
+  three : IsFine v n (want_for w3 c) c
 
 three_args : (v n : ℕ) (w1 w2 w3 : Want) (ds : Items) → AreFine v n (w1 ∷ w2 ∷ w3 ∷ []) ds → IsThree v n w1 w2 w3 ds
 three_args v n w1 w2 w3 ds h =
@@ -153,10 +156,10 @@ record IsFour (v n : ℕ) (w1 w2 w3 w4 : Want) (ds : Items) : Type 0 where
   c : Data
   d : Data
   items : ds ≡ item a (item b (item c (item d no_items)))
-  one : IsFine v n w1 a
-  two : IsFine v n w2 b
-  three : IsFine v n w3 c
-  four : IsFine v n w4 d
+  one : IsFine v n (want_for w1 a) a
+  two : IsFine v n (want_for w2 b) b
+  three : IsFine v n (want_for w3 c) c
+  four : IsFine v n (want_for w4 d) d
 
 four_args : (v n : ℕ) (w1 w2 w3 w4 : Want) (ds : Items) → AreFine v n (w1 ∷ w2 ∷ w3 ∷ w4 ∷ []) ds
     → IsFour v n w1 w2 w3 w4 ds
@@ -182,11 +185,11 @@ record IsFive (v n : ℕ) (w1 w2 w3 w4 w5 : Want) (ds : Items) : Type 0 where
   d : Data
   e : Data
   items : ds ≡ item a (item b (item c (item d (item e no_items))))
-  one : IsFine v n w1 a
-  two : IsFine v n w2 b
-  three : IsFine v n w3 c
-  four : IsFine v n w4 d
-  five : IsFine v n w5 e
+  one : IsFine v n (want_for w1 a) a
+  two : IsFine v n (want_for w2 b) b
+  three : IsFine v n (want_for w3 c) c
+  four : IsFine v n (want_for w4 d) d
+  five : IsFine v n (want_for w5 e) e
 
 five_args : (v n : ℕ) (w1 w2 w3 w4 w5 : Want) (ds : Items) → AreFine v n (w1 ∷ w2 ∷ w3 ∷ w4 ∷ w5 ∷ []) ds
     → IsFive v n w1 w2 w3 w4 w5 ds
@@ -449,7 +452,7 @@ IsActionRead v n table word wants =
 
 -- a text
 abbrev IsTextAt : ℕ → Want → Type 0
-IsTextAt v w = (d : Data) → fits v w d ≡ true → is_some (as_str d) ≡ true
+IsTextAt v w = (d : Data) → fits v (want_for w d) d ≡ true → is_some (as_str d) ≡ true
 
 -- the name of a Cooperator that is looked up is a text
 cooperator_text : (v : ℕ) (d : Data) → fits v a_cooperator d ≡ true → (x : List ℕ) × (d ≡ string x)
@@ -473,66 +476,89 @@ two_texts v n table w u text other make rule ds h =
     rw (a.items, x.1, y.1) (make x.0 y.0, rule x.0 y.0)
 
 -- a text, and what is read so
-text_and : {B : Type 0} {u : Want} {word : List ℕ} (v n : ℕ) (table : List Class) (w : Want) → IsTextAt v w
-    → (Is : Data → B → Type 0) → ((d : Data) → IsFine v n u d → (b : B) × Is d b)
+text_and : {B : Type 0} {word : List ℕ} (v n : ℕ) (table : List Class) (w u : Want) → IsTextAt v w
+    → (Is : Data → B → Type 0) → ((d : Data) → IsFine v n (want_for u d) d → (b : B) × Is d b)
     → (make : List ℕ → B → Action)
     → ((x : List ℕ) (d : Data) (b : B) → Is d b → IsAction table (call word (string x ∷ d ∷ [])) (make x b))
     → IsActionRead v n table word (w ∷ u ∷ [])
-text_and v n table w text Is read make rule ds h =
+text_and v n table w u text Is read make rule ds h =
     let a = two_args v n _ _ ds h in
     let x = text_of a.a (text a.a (fits_fine a.one)) in
     let b = read a.b a.two in
     rw (a.items, x.1) (make x.0 b.0, rule x.0 a.b b.0 b.1)
 
 -- a text, and two things that are
-text_and_two : {B C : Type 0} {u t : Want} {word : List ℕ} (v n : ℕ) (table : List Class) (w : Want) → IsTextAt v w
-    → (Is : Data → B → Type 0) → ((d : Data) → IsFine v n u d → (b : B) × Is d b)
-    → (Are : Data → C → Type 0) → ((d : Data) → IsFine v n t d → (c : C) × Are d c) → (make : List ℕ → B → C → Action)
+text_and_two : {B C : Type 0} {word : List ℕ} (v n : ℕ) (table : List Class) (w u t : Want) → IsTextAt v w
+    → (Is : Data → B → Type 0) → ((d : Data) → IsFine v n (want_for u d) d → (b : B) × Is d b)
+    → (Are : Data → C → Type 0) → ((d : Data) → IsFine v n (want_for t d) d → (c : C) × Are d c)
+    → (make : List ℕ → B → C → Action)
     → ((x : List ℕ) (d e : Data) (b : B) (c : C) → Is d b → Are e c
     → IsAction table (call word (string x ∷ d ∷ e ∷ [])) (make x b c)) → IsActionRead v n table word (w ∷ u ∷ t ∷ [])
-text_and_two v n table w text Is read Are also make rule ds h =
+text_and_two v n table w u t text Is read Are also make rule ds h =
     let a = three_args v n _ _ _ ds h in
     let x = text_of a.a (text a.a (fits_fine a.one)) in
     let b = read a.b a.two in
     let c = also a.c a.three in
     rw (a.items, x.1) (make x.0 b.0 c.0, rule x.0 a.b a.c b.0 c.0 b.1 c.1)
 
+-- a loop, by what stands at the place of the bodies of its turns
+loop_of : (v n : ℕ) (table : List Class) → AreRead v n table → (name deferred : List ℕ) (c : Data) (interval : ℕ)
+    (at_once : Bool) (d : Data) → IsNumber 1 MOST_DELAY c interval → IsFine v n (want_for (want.Array item_of.Turn) d) d
+    → (a : Action)
+    × IsAction table (call (codes "loop") (string name ∷ string deferred ∷ c ∷ boolean at_once ∷ d ∷ [])) a
+loop_of v n table read x y c k now (array (item d ds)) m h =
+    let b = read.of_body d (same 0 h refl refl) in
+    let bs = bodies_of table ds (λ j e is. read.of_body e (same (suc j) h refl is)) in
+    (Loop x y k now b.0 bs.0, loop_of_bodies x y c k now d ds b.0 bs.0 m b.1 bs.1)
+loop_of v n table read x y c k now (array no_items) m h =
+    let b = read.of_body (array no_items) h in (Loop x y k now b.0 [], loop x y c k now (array no_items) b.0 m b.1)
+loop_of v n table read x y c k now null m h =
+    let b = read.of_body null h in (Loop x y k now b.0 [], loop x y c k now null b.0 m b.1)
+loop_of v n table read x y c k now (boolean f) m h =
+    let b = read.of_body (boolean f) h in (Loop x y k now b.0 [], loop x y c k now (boolean f) b.0 m b.1)
+loop_of v n table read x y c k now (number f) m h =
+    let b = read.of_body (number f) h in (Loop x y k now b.0 [], loop x y c k now (number f) b.0 m b.1)
+loop_of v n table read x y c k now (string f) m h =
+    let b = read.of_body (string f) h in (Loop x y k now b.0 [], loop x y c k now (string f) b.0 m b.1)
+loop_of v n table read x y c k now (object ms) m h =
+    let b = read.of_body (object ms) h in (Loop x y k now b.0 [], loop x y c k now (object ms) b.0 m b.1)
+
 -- those of each form, in the order of the table
 actions : (v n : ℕ) (table : List Class) → AreRead v n table
     → EachForm (IsActionRead v n table) (own_forms call_of.Action)
 actions v n table read =
     one_text v n table _ (λ d h. h) (λ x. Deferred x None) deferred &
-    text_and v n table _ (λ d h. h) (IsBody table) read.of_body (λ x b. Deferred x (Some b)) deferred_with &
-    text_and v n table _ (λ d h. h) (IsValue table) (value_of v n table) (λ x b. Callback x b) callback &
+    text_and v n table _ _ (λ d h. h) (IsBody table) read.of_body (λ x b. Deferred x (Some b)) deferred_with &
+    text_and v n table _ _ (λ d h. h) (IsValue table) (value_of v n table) (λ x b. Callback x b) callback &
     (λ ds h.
     let a = three_args v n _ _ _ ds h in
     let p = text_of a.a (fits_fine a.one) in
     let q = class_fine v n table a.b a.two in
     let r = text_of a.c (fits_fine a.three) in
     rw (a.items, p.1, r.1) (Errback p.0 q.0 r.0, errback p.0 a.b q.0 r.0 q.1)) &
-    text_and v n table _ (λ d h. h) (IsBody table) read.of_body (λ x b. AddCallback x b) add_callback &
-    text_and v n table _ (λ d h. h) (IsBody table) read.of_body (λ x b. AddErrback x b) add_errback &
-    text_and v n table _ (λ d h. h) (IsBody table) read.of_body (λ x b. AddBoth x b) add_both &
-    text_and_two v n table _ (λ d h. h) (IsBody table) read.of_body (IsBody table) read.of_body
+    text_and v n table _ _ (λ d h. h) (IsBody table) read.of_body (λ x b. AddCallback x b) add_callback &
+    text_and v n table _ _ (λ d h. h) (IsBody table) read.of_body (λ x b. AddErrback x b) add_errback &
+    text_and v n table _ _ (λ d h. h) (IsBody table) read.of_body (λ x b. AddBoth x b) add_both &
+    text_and_two v n table _ _ _ (λ d h. h) (IsBody table) read.of_body (IsBody table) read.of_body
     (λ x b c. AddCallbacks x b c) add_callbacks &
     two_texts v n table _ _ (λ d h. h) (λ d h. h) (λ x y. Chain x y) chain &
     one_text v n table _ (λ d h. h) (λ x. Pause x) pause &
     one_text v n table _ (λ d h. h) (λ x. Unpause x) unpause &
     one_text v n table _ (λ d h. h) (λ x. Cancel x) cancel &
-    text_and v n table _ (λ d h. h) (IsNumber 0 MOST_DELAY) (number_fine v n 0 MOST_DELAY)
+    text_and v n table _ _ (λ d h. h) (IsNumber 0 MOST_DELAY) (number_fine v n 0 MOST_DELAY)
     (λ x b. AddTimeout x b None) add_timeout &
-    text_and_two v n table _ (λ d h. h) (IsNumber 0 MOST_DELAY) (number_fine v n 0 MOST_DELAY) (IsBody table)
+    text_and_two v n table _ _ _ (λ d h. h) (IsNumber 0 MOST_DELAY) (number_fine v n 0 MOST_DELAY) (IsBody table)
     read.of_body (λ x b c. AddTimeout x b (Some c)) add_timeout_with &
     one_text v n table _ (λ d h. h) (λ x. Note x) note &
-    text_and_two v n table _ (λ d h. h) (IsList IsText) (list_of v n item_of.Deferred IsText (is_text v n))
+    text_and_two v n table _ _ _ (λ d h. h) (IsList IsText) (list_of v n item_of.Deferred IsText (is_text v n))
     (IsList IsListFlag) (list_of v n item_of.ListFlag IsListFlag (λ e g. list_flag_of e (fits_fine g)))
     (λ x b c. ListOf x b c) list &
-    text_and_two v n table _ (λ d h. h) (IsList IsText) (list_of v n item_of.Deferred IsText (is_text v n))
+    text_and_two v n table _ _ _ (λ d h. h) (IsList IsText) (list_of v n item_of.Deferred IsText (is_text v n))
     (IsList IsGatherFlag) (list_of v n item_of.GatherFlag IsGatherFlag (λ e g. gather_flag_of e (fits_fine g)))
     (λ x b c. Gather x b c) gather &
-    text_and v n table _ (λ d h. h) (IsBody table) read.of_body (λ x b. Maybe x b) maybe &
+    text_and v n table _ _ (λ d h. h) (IsBody table) read.of_body (λ x b. Maybe x b) maybe &
     one_text v n table _ (λ d h. h) (λ x. Lock x) lock &
-    text_and v n table _ (λ d h. h) (IsNumber 1 MOST_PLACES) (number_fine v n 1 MOST_PLACES)
+    text_and v n table _ _ (λ d h. h) (IsNumber 1 MOST_PLACES) (number_fine v n 1 MOST_PLACES)
     (λ x b. Semaphore x b) semaphore &
     two_texts v n table _ _ (λ d h. h) (λ d h. h) (λ x y. Acquire x y) acquire &
     one_text v n table _ (λ d h. h) (λ x. Release x) release &
@@ -542,16 +568,16 @@ actions v n table read =
     let q = text_of a.b (fits_fine a.two) in
     let r = read.of_body a.c a.three in
     rw (a.items, p.1, q.1) (RunWith p.0 q.0 r.0, run_with p.0 q.0 a.c r.0 r.1)) &
-    text_and_two v n table _ (λ d h. h) IsBound (λ d h. bound_of d (fits_fine h)) IsBound
+    text_and_two v n table _ _ _ (λ d h. h) IsBound (λ d h. bound_of d (fits_fine h)) IsBound
     (λ d h. bound_of d (fits_fine h)) (λ x b c. Queue x b c) queue &
-    text_and v n table _ (λ d h. h) (IsValue table) (value_of v n table) (λ x b. Put x b) put &
+    text_and v n table _ _ (λ d h. h) (IsValue table) (value_of v n table) (λ x b. Put x b) put &
     two_texts v n table _ _ (λ d h. h) (λ d h. h) (λ x y. Get x y) get &
-    text_and_two v n table _ (λ d h. h) (IsNumber 0 MOST_DELAY) (number_fine v n 0 MOST_DELAY)
+    text_and_two v n table _ _ _ (λ d h. h) (IsNumber 0 MOST_DELAY) (number_fine v n 0 MOST_DELAY)
     (IsBody table) read.of_body (λ x b c. Later x b c) later &
     one_text v n table _ (λ d h. h) (λ x. CancelCall x) cancel_call &
-    text_and v n table _ (λ d h. h) (IsNumber 0 MOST_DELAY) (number_fine v n 0 MOST_DELAY)
+    text_and v n table _ _ (λ d h. h) (IsNumber 0 MOST_DELAY) (number_fine v n 0 MOST_DELAY)
     (λ x b. ResetCall x b) reset_call &
-    text_and v n table _ (λ d h. h) (IsNumber 0 MOST_DELAY) (number_fine v n 0 MOST_DELAY)
+    text_and v n table _ _ (λ d h. h) (IsNumber 0 MOST_DELAY) (number_fine v n 0 MOST_DELAY)
     (λ x b. DelayCall x b) delay_call &
     (λ ds h.
     let a = five_args v n _ _ _ _ _ ds h in
@@ -559,8 +585,7 @@ actions v n table read =
     let q = text_of a.b (fits_fine a.two) in
     let r = number_fine v n 1 MOST_DELAY a.c a.three in
     let s = boolean_of a.d (fits_fine a.four) in
-    let t = read.of_body a.e a.five in
-    rw (a.items, p.1, q.1, s.1) (Loop p.0 q.0 r.0 s.0 t.0, loop p.0 q.0 a.c r.0 s.0 a.e t.0 r.1 t.1)) &
+    rw (a.items, p.1, q.1, s.1) (loop_of v n table read p.0 q.0 a.c r.0 s.0 a.e r.1 a.five)) &
     one_text v n table _ (λ d h. h) (λ x. StopLoop x) stop_loop &
     (λ ds h.
     let a = two_args v n _ _ ds h in
@@ -578,7 +603,7 @@ actions v n table read =
     let o = open_array v n item_of.Statement a.b a.two in
     let q = statements_of table o.items (λ k e is. read.of_statement e (o.each k e is)) in
     rw (a.items, p.1, o.whole) (Inline p.0 q.0, inline p.0 o.items q.0 q.1)) &
-    text_and_two v n table _ (λ d h. h) (IsNumber 0 MOST_DELAY) (number_fine v n 0 MOST_DELAY) (IsWork table)
+    text_and_two v n table _ _ _ (λ d h. h) (IsNumber 0 MOST_DELAY) (number_fine v n 0 MOST_DELAY) (IsWork table)
     (work_fine v n table) (λ x b c. Thread x b c) thread &
     (λ ds h.
     let a = four_args v n _ _ _ _ ds h in
@@ -802,12 +827,28 @@ key_events v n table (Some d) is h = events_by v n table (event_fine v n table) 
 
 -- ---- declarations, pools, the cooperator
 
+record IsPair (v n : ℕ) (w1 w2 : Want) (ds : Items) : Type 0 where
+  a : Data
+  b : Data
+  items : ds ≡ item a (item b no_items)
+  one : IsFine v n w1 a
+  two : IsFine v n w2 b
+
 pair_fine : (v n : ℕ) (w1 w2 : Want) (d : Data) (ds : Items) → d ≡ array ds → are_two ds ≡ true
     → ((k : ℕ) (u : Want) (e : Data) → nth (w1 ∷ w2 ∷ []) k ≡ Some u → at k d ≡ Some e → IsFine v n u e)
-    → IsTwo v n w1 w2 ds
-pair_fine v n w1 w2 d ds whole two parts =
-    two_args v n w1 w2 ds (are_fine v n (w1 ∷ w2 ∷ []) ds (sym (eqb-true (count ds) 2 two))
-    (λ k u e wants is. parts k u e wants (ap (at k) whole ∙ is)))
+    → IsPair v n w1 w2 ds
+pair_fine v n w1 w2 d no_items whole two parts = cc
+pair_fine v n w1 w2 d (item a no_items) whole two parts = cc
+pair_fine v n w1 w2 d (item a (item b no_items)) whole two parts = record {
+  a = a;
+  b = b;
+  items = refl;
+  one = parts 0 w1 a refl (ap (at 0) whole);
+  two = parts 1 w2 b refl (ap (at 1) whole);
+}
+pair_fine v n w1 w2 d (item a (item b (item c ds))) whole two parts =
+    let many : suc (suc (suc (count ds))) ≡ 2 = eqb-true (suc (suc (suc (count ds)))) 2 two in
+    absurd (omega (arith, many))
 
 declaration_fine : (v n : ℕ) (d : Data) → IsFine v n (item_want item_of.Declaration) d
     → (c : Declaration) × IsDeclaration d c
