@@ -53,7 +53,7 @@ def no_twisted() -> Optional[str]:
 
 
 def no_compiler_or_twisted() -> Optional[str]:
-    """What the sweep of the recorder lacks."""
+    """The tools that the sweep of the recorder lacks."""
     return no_compiler() or no_twisted()
 
 

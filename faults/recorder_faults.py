@@ -20,7 +20,7 @@ CRASHED = (-11, -6)
 
 
 class Kind(IntEnum):
-    """What fails, in the order of faults/recorder_shim.c."""
+    """The calls that fail, in the order of faults/recorder_shim.c."""
 
     OPEN = 0
     WRITE = 1
@@ -84,7 +84,7 @@ def whole(files: Dict[str, bytes], name: str = NAME) -> Optional[Dict[str, str]]
 
 
 def wrongs(program: Program, fault: Fault, end: End, clean: End) -> List[str]:
-    """What is wrong with an end. `clean`: the one without a fault."""
+    """The mistakes of an end. `clean`: the one without a fault."""
     if end.status is None:
         return ["it hangs"]
     is_killed = fault.kills and end.met
@@ -126,7 +126,7 @@ def _is_new(files: Dict[str, bytes], clean: End) -> bool:
 
 
 def _wrong_words(program: Program, end: End, clean: End) -> List[str]:
-    """What is wrong with what was said: it has to say whether the new recording is there."""
+    """The mistakes of what was said: it has to say whether the new recording is there."""
     is_new = _is_new(end.files, clean)
     says_new = re.search(rf"[ /]{NAME}(\.whole)?\.(json|journal)( and [^ ]*)?: |whole: {NAME}$", end.said, re.MULTILINE) is not None
     says_not = re.search(r"can't be (opened|written|synced|kept)|can't get its name", end.said) is not None

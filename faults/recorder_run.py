@@ -127,7 +127,7 @@ class Sweep:
 
 
 def read_folder(folder: Path) -> Dict[str, bytes]:
-    """What the files of a folder have, by their names."""
+    """The contents of the files of a folder, by their names."""
     return {path.name: path.read_bytes() for path in folder.iterdir()}
 
 

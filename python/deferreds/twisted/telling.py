@@ -852,11 +852,6 @@ class Observer:
         """Has this be the clock of the run."""
         self._clock = weakref.ref(clock)
 
-    def clock_calls(self) -> List[Any]:
-        """The delayed calls that wait."""
-        clock = self.clock
-        return [] if clock is None else list(clock.calls)
-
     def now(self) -> float:
         """The time since the run began."""
         clock = self.clock
