@@ -24,6 +24,7 @@ from deferreds.twisted.running import be_quiet
 WORDS = {
     "conform": ["--rows", "--", "false"],
     "measure": [],
+    "measure_shaking": [__file__],
     "on_twisted": [],
     "record": ["-o", "/dev/null/run", __file__],
     "recorded_rows": ["--check"],

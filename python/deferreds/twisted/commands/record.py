@@ -18,6 +18,10 @@ ends in the midst of an event, NAME.json is of its beginning, and NAME.whole.jou
 What was before that is forgotten. Each script begins with the Deferreds in their state at that time. Loops, delayed calls and tasks
 from before are recorded as the Python that they are made of, and so are locks and queues.
 
+`--shake N` runs the program N times in processes of their own, each shaken by another seed, and records the first run that fails as NAME;
+docs/SHAKE.md describes it. The status is then 1 if a run failed, 0 if none did, and 2 if no plain run passes. `--seed K` without it
+records one run that is shaken by this seed.
+
 If `./deferreds` is there, it runs the script, and its lines are compared with those of the run. If they differ behind an entry of
 docs/TWISTED.md, real Twisted runs the script, and the script ends before the event in which it prints other lines. If they differ
 without an entry, no script is kept.
@@ -58,6 +62,12 @@ from ..recording.messages import Messages
 from ..recording.programs import LADDER, NotLoaded, record_program, tests_of
 from ..recording.recorder import Recorder
 from ..recording.saying import Said
+from ..shaking.choices import Choices
+from ..shaking.install import install as install_shaking
+from ..shaking.options import TAKE_WORD, add_options, problem_of, settings_of, wanted_of
+from ..shaking.plain import run_plain
+from ..shaking.search import Program, Search
+from ..shaking.shaker import Shaker
 from ..telling import KINDS
 
 _NO_PROGRAM = 66
@@ -94,6 +104,7 @@ def _arguments(words: List[str]) -> argparse.Namespace:
         help=f"record these as the Python that they are made of: {', '.join(sorted(KINDS))}",
     )
     add("--redact", metavar="WHAT", default=SECRETS, help="hide `all` values, those that look like `secrets` (the default), or `none`")
+    add_options(parser)
     add("program", nargs=argparse.REMAINDER, metavar="PROGRAM [ARGS..]")
     parsed = parser.parse_args(_detached(words))
     if parsed.program and parsed.program[0] == "--":
@@ -111,7 +122,7 @@ def _count(word: str) -> int:
 
 def _detached(words: List[str]) -> List[str]:
     """The arguments, with `-mMODULE`, which Python accepts, as two of them."""
-    takes_word = ("-o", "--test", "--plain", "--redact", "--last")
+    takes_word = ("-o", "--test", "--plain", "--redact", "--last", *TAKE_WORD)
     before = ""
     for place, word in enumerate(words):
         if before not in takes_word:
@@ -140,6 +151,9 @@ def _check(arguments: argparse.Namespace) -> None:
         raise Refused(USAGE, "--last is for programs and modules, and not for --test")
     if wanted.count(True) > 1:
         raise Refused(USAGE, "one of PROGRAM, -m MODULE and --test MODULE.CLASS.METHOD is taken, and not two")
+    problem = problem_of(arguments)
+    if problem:
+        raise Refused(USAGE, problem)
 
 
 def _refuse_module(name: str) -> None:
@@ -194,10 +208,19 @@ def _keeping(arguments: argparse.Namespace, name: str, messages: Messages) -> Ke
     return Keeping(place, messages, arguments.view, program())
 
 
+def _usual_name(arguments: argparse.Namespace, target: str) -> str:
+    """NAME of a recording of the module or the file."""
+    return _name(arguments.output, target.split(".")[-1] if arguments.module else Path(os.path.abspath(target)).stem)
+
+
 def _program(arguments: argparse.Namespace, messages: Messages) -> int:
     target, words = _target(arguments)
-    stem = target.split(".")[-1] if arguments.module else Path(os.path.abspath(target)).stem
-    name = _name(arguments.output, stem)
+    status, kept = _record(arguments, messages, target, words, _usual_name(arguments, target))
+    return ProgramStatus(status or kept)
+
+
+def _record(arguments: argparse.Namespace, messages: Messages, target: str, words: List[str], name: str) -> Tuple[int, int]:
+    """Records a run of a program. Gives its status, and what became of the recording."""
     kinds = KINDS - set(arguments.plain.split(","))
     keeping = _keeping(arguments, name, messages)
     if arguments.last is None:
@@ -209,7 +232,21 @@ def _program(arguments: argparse.Namespace, messages: Messages) -> int:
     with Endings(keeper).watched():
         status = record_program(recorder, target, words, bool(arguments.module), arguments.virtual)
         kept = keeper.keep(f"status {status}")
-    return ProgramStatus(status or kept)
+    return status, kept
+
+
+def _shake(arguments: argparse.Namespace, messages: Messages) -> int:
+    """Runs a program many times, in processes of their own."""
+    target, words = _target(arguments)
+    is_module = bool(arguments.module)
+    arguments.view = True
+    keeping = _keeping(arguments, _usual_name(arguments, target), messages)
+
+    def recorded(name: str) -> int:
+        return _record(arguments, Messages(command_name("record")), target, words, name)[0]
+
+    program = Program(lambda: run_plain(target, words, is_module), recorded)
+    return Search(program, wanted_of(arguments), keeping.place, messages).run()
 
 
 def _test(arguments: argparse.Namespace, messages: Messages) -> int:
@@ -243,10 +280,15 @@ def main(words: List[str]) -> int:
     try:
         arguments = _arguments(words)
         _check(arguments)
-        install()
+        if arguments.shake is None:
+            install()
         if arguments.module or arguments.test:
             # modules are looked for as `python3 -m` does it, also where the command is installed
             set_first_folder(os.getcwd())
+        if arguments.shake is not None:
+            return _shake(arguments, messages)
+        if arguments.seed is not None:
+            install_shaking(Shaker(Choices(settings_of(arguments))))
         return _test(arguments, messages) if arguments.test else _program(arguments, messages)
     except Refused as why:
         messages.say(str(why))

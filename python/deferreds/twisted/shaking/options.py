@@ -1,0 +1,87 @@
+"""The options by which a program is shaken."""
+
+from __future__ import annotations
+
+import argparse
+import math
+from typing import FrozenSet, List, Optional
+
+from .choices import KINDS, MOST_MS, Settings
+from .failing import LEFT, STATUS
+from .search import Wanted
+
+#: those that take a word
+TAKE_WORD = ("--shake", "--seed", "--until", "--within", "--shaken", "--longest", "--only")
+
+_FIRST_SEED = 1
+_SECONDS = 10.0
+
+
+def add_options(parser: argparse.ArgumentParser) -> None:
+    """Adds the options."""
+    add = parser.add_argument_group("shaking", "runs in which other threads, the network and the machine are late (docs/SHAKE.md)").add_argument
+    add("--shake", type=_count, metavar="N", help="run it N times, each shaken by another seed, and record the first run that fails")
+    add("--seed", type=_seed, metavar="K", help="the first seed; without --shake: record one run, shaken by this seed")
+    add("--until", metavar="WHAT", help=f"what fails, beside an error or a hang: a `{STATUS}` (the default), what is `{LEFT}`, or a command's status")
+    add("--within", type=_seconds, metavar="S", help=f"how many seconds a run may take: {_SECONDS:g}, if it isn't said")
+    add("--shaken", metavar="KIND,..", help=f"shake these alone: {', '.join(KINDS)}")
+    add("--longest", type=_seconds, metavar="MS", help=f"the longest delay in milliseconds: {MOST_MS:g}, if it isn't said")
+    add("--only", action="append", metavar="KEY", help="shake only what has this key, as a search has named it; may be given several times")
+    add("--no-cut", dest="cuts", action="store_false", help="don't look which perturbations a failure needs")
+
+
+def problem_of(arguments: argparse.Namespace) -> str:
+    """What is wrong with the options together; nothing, if they are right."""
+    unknown = sorted(_kinds(arguments) - set(KINDS))
+    if unknown:
+        return f"--shaken has no {', '.join(unknown)}: {', '.join(KINDS)}"
+    if arguments.shake is None and arguments.seed is None:
+        given = [name for name in ("until", "within", "shaken", "longest", "only") if getattr(arguments, name) is not None]
+        return f"--{given[0]} is for --shake and --seed" if given else ""
+    if arguments.virtual:
+        return "what is shaken needs a real reactor, and --virtual has none"
+    if arguments.test:
+        return "--shake and --seed are for programs and modules, and not for --test"
+    if arguments.shake is None and (arguments.until is not None or arguments.within is not None):
+        return "--until and --within are for --shake"
+    return "--shake and --last don't go together" if arguments.shake is not None and arguments.last is not None else ""
+
+
+def settings_of(arguments: argparse.Namespace) -> Settings:
+    """What is chosen."""
+    only: Optional[FrozenSet[str]] = None if arguments.only is None else frozenset(arguments.only)
+    seed = _FIRST_SEED if arguments.seed is None else arguments.seed
+    most = MOST_MS if arguments.longest is None else arguments.longest
+    return Settings(seed, _kinds(arguments), most, only)
+
+
+def wanted_of(arguments: argparse.Namespace) -> Wanted:
+    """What is looked for."""
+    seconds = _SECONDS if arguments.within is None else arguments.within
+    return Wanted(arguments.shake, settings_of(arguments), arguments.until or STATUS, seconds, arguments.cuts)
+
+
+def _kinds(arguments: argparse.Namespace) -> FrozenSet[str]:
+    given: List[str] = list(filter(None, (arguments.shaken or "").split(",")))
+    return frozenset(given or KINDS)
+
+
+def _count(word: str) -> int:
+    count = int(word)
+    if count < 1:
+        raise argparse.ArgumentTypeError("it isn't from 1 on")
+    return count
+
+
+def _seed(word: str) -> int:
+    seed = int(word)
+    if seed < 0:
+        raise argparse.ArgumentTypeError("it isn't from 0 on")
+    return seed
+
+
+def _seconds(word: str) -> float:
+    seconds = float(word)
+    if not (math.isfinite(seconds) and seconds > 0):
+        raise argparse.ArgumentTypeError("it isn't more than 0")
+    return seconds

@@ -1,0 +1,277 @@
+"""Looks for a run that fails: plain runs first, then one for each seed. Of the first that fails, what it needs is found and said, and a run
+with that alone is recorded.
+"""
+
+from __future__ import annotations
+
+import itertools
+from typing import Any, Callable, Dict, FrozenSet, List, Mapping, NamedTuple, Optional, Sequence
+
+from ...checkout import command_name
+from ...program import NOT_RUN
+from ...view.names import PLACES
+from ..recording.files import Place
+from ..recording.messages import Messages
+from .choices import Choices, Settings
+from .failing import LEFT, Judge, Why
+from .install import install
+from .kept import Room
+from .knowing import why_unknown
+from .left import left_of
+from .log import Log
+from .needed import Cutting, Needed
+from .progress import Progress, runs
+from .runs import Ended, run
+from .shaker import Shaker
+from .telling_order import Seen, sentence
+
+#: the status if a run has failed, if none has, and if plain runs fail, so that there is nothing to look for
+FAILED, PASSED, UNUSABLE = 1, 0, 2
+
+#: how many plain runs are made
+_PLAIN = 3
+#: how many runs cutting down may take
+_MOST_CUTTING = 120
+#: how much longer delays are tried, if a recorded run doesn't fail, and how often each
+_STRETCHES = (1.0, 1.5, 2.0)
+_TRIES = 3
+#: how many perturbations the list of the files names at most
+_MOST_LISTED = 100
+_LINES_OF_OUTPUT = 3
+
+
+class Program(NamedTuple):
+    """What is run."""
+
+    #: runs it as Python does, and gives its status
+    bare: Callable[[], int]
+    #: runs it under the recorder, which writes a recording of this name, and gives the program's status
+    recorded: Callable[[str], int]
+
+
+class Wanted(NamedTuple):
+    """What is looked for, and how."""
+
+    times: int
+    settings: Settings
+    until: str
+    most_seconds: float
+    cuts: bool
+
+
+class Found(NamedTuple):
+    """A run that fails."""
+
+    settings: Settings
+    why: Why
+    ended: Ended
+
+
+class Search:
+    """One search."""
+
+    def __init__(self, program: Program, wanted: Wanted, place: Place, messages: Messages) -> None:
+        self._program = program
+        self._wanted = wanted
+        self._place = place
+        self._progress = Progress(messages)
+        self._judge = Judge(wanted.until, wanted.most_seconds, ())
+        #: how many runs were made
+        self._count = 0
+        self._is_kept = False
+
+    def run(self) -> int:
+        """Looks. Gives the status of the command. Ctrl-C raises KeyboardInterrupt, and what was kept until then stays."""
+        self._room = Room(self._place)
+        try:
+            return self._run()
+        except KeyboardInterrupt:
+            self._progress.say(f"stopped by Ctrl-C, after {runs(self._count)}; {'the recording stays' if self._is_kept else 'nothing is kept'}")
+            raise
+        finally:
+            self._room.close()
+
+    def _run(self) -> int:
+        unknown = why_unknown()
+        if unknown:
+            self._progress.say(unknown)
+            return NOT_RUN
+        if not self._has_plain():
+            return UNUSABLE
+        found = self._find()
+        if found is None:
+            return PASSED
+        self._keep(found, (), None)
+        if self._wanted.cuts:
+            self._explain(found)
+        return FAILED
+
+    # the runs
+
+    def _has_plain(self) -> bool:
+        """Makes plain runs, by which the others are judged, and says which of them fail: a busy machine shakes, too. Whether one passes."""
+        passing: List[Ended] = []
+        for number in range(1, _PLAIN + 1):
+            self._progress.show(f"plain run {number} of {_PLAIN}")
+            ended = self._plain()
+            why = Judge(self._wanted.until, self._wanted.most_seconds, [*passing, ended]).why(ended)
+            if why is None:
+                passing.append(ended)
+                continue
+            self._say_output(ended)
+            self._progress.say(f"plain run {number} of {_PLAIN} fails, which isn't shaken: {why.text}{_longer(why)}")
+        self._judge = Judge(self._wanted.until, self._wanted.most_seconds, passing)
+        if not passing:
+            self._progress.say("nothing is shaken, since no plain run passes")
+        return bool(passing)
+
+    def _plain(self) -> Ended:
+        """A run in which nothing is perturbed."""
+        self._count += 1
+        if self._wanted.until == LEFT:
+            return self._recorded(lambda log: self._program.recorded(str(self._room.name)))
+        return run(lambda log: self._program.bare(), self._wanted.most_seconds)
+
+    def _find(self) -> Optional[Found]:
+        """The first run that fails, of those of the seeds."""
+        first, times = self._wanted.settings.seed, self._wanted.times
+        for number in range(times):
+            self._progress.show(f"{number} of {runs(times)}")
+            settings = self._wanted.settings._replace(seed=first + number)
+            ended = self._shaken(settings)
+            why = self._judge.why(ended)
+            if why is not None:
+                self._say_output(ended)
+                self._progress.say(f"seed {settings.seed} fails, after {runs(number + 1)}, {self._progress.seconds}: {why.text}")
+                return Found(settings, why, ended)
+        hint = "" if self._wanted.until == LEFT else "; --until left also looks at what they leave"
+        self._progress.say(f"none of {times} shaken runs failed, {self._progress.seconds}{hint}")
+        return None
+
+    def _shaken(self, settings: Settings, records: bool = False) -> Ended:
+        """A run that is perturbed by these."""
+        self._count += 1
+        if records or self._wanted.until == LEFT:
+            return self._recorded(lambda log: self._under_recorder(settings, log))
+        return run(lambda log: self._bare(settings, log), self._wanted.most_seconds)
+
+    def _bare(self, settings: Settings, log: Log) -> int:
+        install(Shaker(Choices(settings), log, follows=True))
+        return self._program.bare()
+
+    def _under_recorder(self, settings: Settings, log: Log) -> int:
+        from ..instruments import install as install_instruments
+
+        install_instruments()  # (which hold Twisted's own functions: so these are perturbed after them)
+        install(Shaker(Choices(settings), log, follows=self._wanted.until == LEFT))
+        return self._program.recorded(str(self._room.name))
+
+    def _recorded(self, program: Callable[[Log], int]) -> Ended:
+        self._room.clear()
+        ended = run(program, self._wanted.most_seconds, self._room.is_written)
+        return ended._replace(left=left_of(self._room.name)) if self._wanted.until == LEFT else ended
+
+    # what is kept
+
+    def _keep(self, found: Found, keys: Sequence[str], facts: Optional[Mapping[str, object]]) -> None:
+        """Records a run that fails like this one, by all perturbations or by these keys alone, and longer ones if that doesn't do."""
+        only = frozenset(keys) if facts is not None else found.settings.only
+        for attempt in range(_TRIES * len(_STRETCHES)):
+            self._progress.show(f"recording, attempt {attempt + 1}")
+            settings = found.settings._replace(only=only, stretch=_STRETCHES[attempt // _TRIES])
+            ended = self._shaken(settings, records=True)
+            why = self._judge.why(ended)
+            if why is not None and why.is_late == found.why.is_late:
+                self._write(settings, why, ended, facts)
+                return
+        stays = "; the one with all perturbations stays" if self._is_kept else ""
+        self._progress.say(f"none of {runs(_TRIES * len(_STRETCHES))} that were recorded failed{stays}")
+
+    def _write(self, settings: Settings, why: Why, ended: Ended, facts: Optional[Mapping[str, object]]) -> None:
+        shaken = {
+            "seed": settings.seed,
+            "kinds": sorted(settings.kinds),
+            "most ms": settings.most,
+            "longer": settings.stretch,
+            "fails": why.text,
+            **(facts if facts is not None else {"perturbations": dict(itertools.islice(ended.met.items(), _MOST_LISTED)), "of": len(ended.met)}),
+        }
+        facts_of_it = self._room.facts or {}
+        written = self._room.keep(shaken)
+        if written is None:
+            self._progress.say("the failing run has no recording: it has used no Deferreds")
+            return
+        for failure in written.failures:
+            self._progress.say(failure)
+        if written.is_any:
+            self._is_kept = True
+            if facts is not None or not self._wanted.cuts:
+                self._progress.say(f"{written.name}.html shows the run that fails, and {written.name}.recording lists its files")
+                self._say_if_no_script(facts_of_it)
+
+    def _say_if_no_script(self, facts: Mapping[str, Any]) -> None:
+        if not any(file.endswith(".json") and not file.endswith(PLACES) for file in facts.get("files", ())):
+            self._progress.say(str(facts.get("compared", "")))
+
+    # what is needed
+
+    def _explain(self, found: Found) -> None:
+        """Cuts down, says what is needed, and records with that alone."""
+        cutting = Cutting(lambda keys: self._fails(found, frozenset(keys)), _MOST_CUTTING)
+        all_keys = list(found.ended.met)
+        needed = cutting.cut(all_keys)
+        self._say_needed(found, needed, len(all_keys))
+        if not needed.keys or not needed.again:
+            return
+        words = self._words(found, needed.keys)
+        sentences = [self._sentence(found, needed.keys, key, words[key]) for key in needed.keys]
+        said = f"it fails if {', and '.join(dict.fromkeys(sentences))}"
+        self._progress.say(said)
+        again = " ".join(f"--only '{key}'" for key in needed.keys)
+        self._progress.say(f"again: --seed {found.settings.seed} {again}")
+        facts = {"perturbations": {key: words[key] for key in needed.keys}, "needs": said, "of": len(all_keys)}
+        self._keep(found, needed.keys, facts)
+
+    def _fails(self, found: Found, only: FrozenSet[str]) -> bool:
+        self._progress.show(f"cutting down, {runs(self._count)}")
+        return self._fails_alike(found, self._shaken(found.settings._replace(only=only)))
+
+    def _fails_alike(self, found: Found, ended: Ended) -> bool:
+        why = self._judge.why(ended)
+        return why is not None and why.is_late == found.why.is_late
+
+    def _say_needed(self, found: Found, needed: Needed, count: int) -> None:
+        if not needed.keys:
+            self._progress.say("it fails with no perturbation, too: the machine is busy enough")
+        elif not needed.again:
+            self._progress.say(f"none of 5 further runs of seed {found.settings.seed} failed; threads aren't determined by a seed")
+        else:
+            self._progress.say(f"{len(needed.keys)} of {count} perturbations {'is' if len(needed.keys) == 1 else 'are'} needed ({runs(needed.runs)}):")
+
+    def _words(self, found: Found, keys: Sequence[str]) -> Dict[str, str]:
+        """What the needed perturbations did, in words, which are said."""
+        met = {**found.ended.met, **self._shaken(found.settings._replace(only=frozenset(keys))).met}
+        for key in keys:
+            self._progress.say(f"  {met[key]}")
+        return met
+
+    def _sentence(self, found: Found, keys: Sequence[str], key: str, words: str) -> str:
+        def seen(lengths: Dict[str, float]) -> Seen:
+            self._progress.show(f"finding what it takes, {runs(self._count)}")
+            left_out = {key for key, length in lengths.items() if length == 0}
+            ended = self._shaken(found.settings._replace(only=frozenset(set(keys) - left_out), lengths=lengths))
+            return Seen(self._fails_alike(found, ended), ended.came)
+
+        return sentence(key, words, seen)
+
+    def _say_output(self, ended: Ended) -> None:
+        own = f"{command_name('record')}: "
+        lines = [line for line in ended.output.rstrip().splitlines() if not line.startswith(own)]
+        for line in lines[-_LINES_OF_OUTPUT:]:
+            self._progress.say(f"  | {line}")
+
+
+def _longer(why: Why) -> str:
+    return "; --within S gives it longer" if why.is_late else ""
+
+

@@ -1,0 +1,291 @@
+"""What a seed chooses, how runs are made and judged, what is needed is found, and what a failure takes is said."""
+
+from __future__ import annotations
+
+import os
+import signal
+import sys
+import time
+import unittest
+from collections import Counter
+from typing import Dict, List, Optional, Sequence, Tuple
+
+from deferreds.twisted.shaking.choices import KINDS, Choices, Settings
+from deferreds.twisted.shaking.failing import LEFT, STATUS, Judge
+from deferreds.twisted.shaking.log import Log
+from deferreds.twisted.shaking.naming import Counts, cleaned, ordinal, place_of_program
+from deferreds.twisted.shaking.needed import Cutting
+from deferreds.twisted.shaking.runs import Ended, run
+from deferreds.twisted.shaking.shaker import CAME, Shaker
+from deferreds.twisted.shaking.telling_order import Seen, sentence
+
+_WHO = [f"thread-{number}" for number in range(40)]
+
+
+def sizes(settings: Settings, kinds: Sequence[str] = tuple(KINDS), first: int = 1) -> Dict[str, float]:
+    """What is chosen of some hundred possible perturbations, by their keys."""
+    choices = Choices(settings)
+    asked = [(kind, who, number) for kind in kinds for who in _WHO for number in range(first, first + 4)]
+    found = {f"{kind} {who} {number}": choices.size(kind, who, number) for kind, who, number in asked}
+    return {key: size for key, size in found.items() if size is not None}
+
+
+class ChoicesTest(unittest.TestCase):
+    """What a seed chooses."""
+
+    def test_a_choice_depends_on_the_seed_and_the_key_alone(self) -> None:
+        whole = sizes(Settings(7))
+        alone = {key: Choices(Settings(7)).size(*key.split(" ")[:2], int(key.split(" ")[2])) for key in whole}  # type: ignore[arg-type]
+        self.assertEqual(alone, whole)
+        self.assertNotEqual(sizes(Settings(8)), whole)
+
+    def test_to_leave_some_out_changes_no_other(self) -> None:
+        whole = sizes(Settings(7))
+        some = frozenset(list(whole)[::3])
+        self.assertTrue(some)
+        self.assertEqual(sizes(Settings(7, only=some)), {key: whole[key] for key in some})
+
+    def test_kinds_that_are_not_shaken_are_left_alone(self) -> None:
+        whole = sizes(Settings(3))
+        found = sizes(Settings(3, frozenset({"hold", "cut"})))
+        self.assertTrue(found)
+        self.assertEqual(found, {key: size for key, size in whole.items() if key.startswith(("hold ", "cut "))})
+
+    def test_each_kind_is_chosen_by_some_seed_and_off_by_another(self) -> None:
+        for kind in KINDS:
+            counts = [len(sizes(Settings(seed), [kind])) for seed in range(30)]
+            self.assertIn(0, counts, kind)
+            self.assertGreater(max(counts), len(_WHO), kind)
+
+    def test_who_comes_very_often_is_seldom_held_up(self) -> None:
+        early = sum(len(sizes(Settings(seed), ["post"])) for seed in range(30))
+        late = sum(len(sizes(Settings(seed), ["post"], 5000)) for seed in range(30))
+        self.assertLess(late * 50, early)
+
+    def test_delays_are_as_long_as_is_asked(self) -> None:
+        for seed in range(20):
+            choices = Choices(Settings(seed, most=80.0))
+            lengths = [choices.milliseconds("post a 1", size / 100) for size in range(101)]
+            self.assertEqual(lengths, sorted(lengths))
+            self.assertAlmostEqual(lengths[0], 0.1)
+            self.assertAlmostEqual(lengths[-1], 80.0)
+
+    def test_delays_can_be_longer_all_or_those_of_a_key(self) -> None:
+        usual = Choices(Settings(1)).milliseconds("post a 1", 0.4)
+        self.assertAlmostEqual(Choices(Settings(1, stretch=1.5)).milliseconds("post a 1", 0.4), usual * 1.5)
+        longer = Choices(Settings(1, stretch=2.0, lengths={"post a 1": 0.25}))
+        self.assertAlmostEqual(longer.milliseconds("post a 1", 0.4), usual * 0.5)
+        self.assertAlmostEqual(longer.milliseconds("post b 1", 0.4), usual * 2)
+
+
+class NamesTest(unittest.TestCase):
+    """Names that things have in each run."""
+
+    def test_a_place_is_that_of_the_program(self) -> None:
+        line = sys._getframe().f_lineno + 1
+        self.assertEqual(place_of_program(), f"test_shaking.py:{line}")
+
+    def test_names_have_neither_spaces_nor_commas(self) -> None:
+        self.assertEqual(cleaned("Thread-1 (work, later)"), "Thread-1_(work__later)")
+
+    def test_what_has_the_same_name_is_counted(self) -> None:
+        counts = Counts()
+        self.assertEqual([counts.next(name) for name in ("a", "b", "a", "a")], [1, 1, 2, 3])
+
+    def test_ordinals(self) -> None:
+        self.assertEqual([ordinal(n) for n in (1, 2, 3, 4, 11, 12, 13, 21, 112)], "1st 2nd 3rd 4th 11th 12th 13th 21st 112th".split())
+
+
+class RunsTest(unittest.TestCase):
+    """Runs in processes of their own."""
+
+    def test_what_a_run_prints_and_notes_is_known(self) -> None:
+        def program(log: Log) -> int:
+            print("printed")
+            Shaker(Choices(Settings(1)), log).meet("post", "a\tb", 1, "two\nlines")
+            return 3
+
+        ended = run(program, 20.0)
+        self.assertEqual((ended.status, ended.output, ended.met), (3, "printed\n", {"post a b 1": "two lines"}))
+
+    def test_a_run_that_hangs_is_ended_with_all_that_it_has_started(self) -> None:
+        def program(log: Log) -> int:
+            child = os.fork()
+            if child == 0:
+                os.setsid()
+                time.sleep(60)
+            Shaker(Choices(Settings(1)), log, follows=True).come(str(child), "")
+            time.sleep(60)
+            return 0
+
+        ended = run(program, 1.0)
+        self.assertIsNone(ended.status)
+        [(child, _)] = ended.came
+        self.assertRaises(ProcessLookupError, os.kill, int(child), 0)
+
+    def test_the_signal_that_ends_a_run_is_its_status(self) -> None:
+        def program(log: Log) -> int:
+            os.kill(os.getpid(), signal.SIGTERM)
+            return 0
+
+        self.assertEqual(run(program, 20.0).status, -signal.SIGTERM)
+
+    def test_a_run_has_no_standard_input_and_is_no_part_of_this_group(self) -> None:
+        def program(log: Log) -> int:
+            print(repr(sys.stdin.read()), os.getpgid(0) == os.getpid())
+            return 0
+
+        self.assertEqual(run(program, 20.0).output, "'' True\n")
+
+    def test_a_forked_child_notes_nothing(self) -> None:
+        def program(log: Log) -> int:
+            if os.fork() == 0:
+                log.write(CAME, "child", "")
+                os._exit(0)
+            os.wait()
+            log.write(CAME, "parent", "")
+            return 0
+
+        self.assertEqual(run(program, 20.0).came, [("parent", "")])
+
+    def test_what_does_not_fit_into_the_log_is_dropped(self) -> None:
+        log = Log(64)
+        for number in range(9):
+            log.write("line", str(number), "x" * 20)
+        self.assertEqual([line[1] for line in log.lines()], ["0", "1"])
+        log.close()
+
+    def test_errors_that_are_logged_are_noted(self) -> None:
+        def program(log: Log) -> int:
+            from twisted.internet.defer import fail
+            from twisted.python import log as old
+            from twisted.python.failure import Failure
+
+            old.err(Failure(KeyError("a")), "why")
+            old.err("b")
+            old.msg("no error")
+            fail(ValueError("c"))  # (which nobody handles)
+            return 0
+
+        self.assertEqual(run(program, 20.0).errors, Counter(["KeyError", "without a failure", "ValueError"]))
+
+
+def ended(status: Optional[int] = 0, errors: Sequence[str] = (), left: Sequence[str] = (), output: str = "") -> Ended:
+    """How a run has ended."""
+    return Ended(status, output, {}, [], Counter(errors), Counter(left), 0.1)
+
+
+def whys(until: str, plain: Sequence[Ended], runs: Sequence[Ended]) -> List[Optional[str]]:
+    """Why these runs fail."""
+    judge = Judge(until, 5.0, plain)
+    return [None if why is None else why.text for why in map(judge.why, runs)]
+
+
+class JudgeTest(unittest.TestCase):
+    """Which runs fail."""
+
+    def test_a_run_fails_by_its_status_its_signal_and_its_time(self) -> None:
+        found = whys(STATUS, [ended()], [ended(), ended(3), ended(-9), ended(None)])
+        self.assertEqual(found, [None, "its status is 3", "signal 9 ends it", "it takes longer than 5 s"])
+
+    def test_an_error_that_plain_runs_log_too_is_none(self) -> None:
+        plain = [ended(errors=["KeyError"]), ended(errors=["KeyError", "ValueError"])]
+        found = whys(STATUS, plain, [ended(errors=["ValueError", "KeyError"]), ended(errors=["KeyError"] * 2), ended(errors=["OSError"])])
+        self.assertEqual(found, [None, "an error is logged: KeyError", "an error is logged: OSError"])
+
+    def test_what_is_left_is_looked_at_if_asked(self) -> None:
+        runs = [ended(left=["a", "b"]), ended(left=["a", "a"])]
+        self.assertEqual(whys(STATUS, [ended()], runs), [None, None])
+        plain = [ended(left=["a"]), ended(left=["b"])]
+        self.assertEqual(whys(LEFT, plain, runs), [None, "left at its end: a"])
+
+    def test_a_command_judges_the_output(self) -> None:
+        found = whys("grep -q good", [ended()], [ended(output="good\n"), ended(output="bad\n"), ended(2, output="good\n")])
+        self.assertEqual(found, [None, "`grep -q good` has status 1", "its status is 2"])
+        self.assertEqual(whys('grep -q good "$SHAKEN_OUTPUT"', [], [ended(output="good\n")]), [None])
+
+
+class CuttingTest(unittest.TestCase):
+    """The least perturbations that a failure needs."""
+
+    def test_what_is_needed_is_found(self) -> None:
+        keys = [f"post a {number}" for number in range(40)]
+        for needed in ([keys[17]], [keys[3], keys[30]], [keys[0], keys[1], keys[39]]):
+            cutting = Cutting(lambda some: set(needed) <= set(some), 1000)
+            self.assertEqual(sorted(cutting.cut(keys).keys), sorted(needed))
+
+    def test_a_set_that_fails_once_in_three_is_not_enough(self) -> None:
+        turns = {"alone": 0}
+
+        def fails(keys: Sequence[str]) -> bool:
+            if list(keys) == ["a"]:
+                turns["alone"] += 1
+                return turns["alone"] % 3 == 1
+            return set(keys) >= {"a", "b"}
+
+        self.assertEqual(sorted(Cutting(fails, 1000).cut(["a", "b", "c", "d"]).keys), ["a", "b"])
+
+    def test_a_failure_that_needs_nothing_is_seen(self) -> None:
+        self.assertEqual(Cutting(lambda keys: True, 100).cut(["a", "b"]).keys, [])
+
+    def test_a_failure_that_does_not_come_again_is_seen(self) -> None:
+        needed = Cutting(lambda keys: False, 100).cut(["a", "b"])
+        self.assertEqual((needed.again, list(needed.keys)), (0, ["a", "b"]))
+
+    def test_no_more_runs_are_made_than_allowed(self) -> None:
+        keys = [str(number) for number in range(200)]
+        cutting = Cutting(lambda some: set(keys[::2]) <= set(some), 60)
+        cutting.cut(keys)
+        self.assertLessEqual(cutting.runs, 60)
+
+
+class SentenceTest(unittest.TestCase):
+    """What a failure takes, in words."""
+
+    def said(self, key: str, words: str, others: Sequence[Tuple[str, float]], moved: Tuple[str, float], threshold: str) -> str:
+        """The sentence of a failure that comes if what is moved comes after the threshold: all with the times at which they come."""
+        name, at = moved
+
+        def seen(lengths: Dict[str, float]) -> Seen:
+            came = sorted([*others, (name, at * lengths[key])], key=lambda one: one[1])
+            order = [each for each, _ in came]
+            return Seen(order.index(name) > order.index(threshold), [(each, each.upper()) for each in order])
+
+        return sentence(key, words, seen)
+
+    def test_it_names_what_has_to_come_before(self) -> None:
+        others = [("call a", 0.2), ("result b", 0.5), ("call c", 0.52), ("call d", 0.9)]
+        for threshold in ("call a", "result b", "call c", "call d"):
+            found = self.said("start p.py:3#1 1", "words", others, ("result p.py:3#1", 1.0), threshold)
+            self.assertEqual(found, f"RESULT P.PY:3#1 comes after {threshold.upper()}")
+
+    def test_each_kind_moves_its_own(self) -> None:
+        rows = [
+            ("job j#1 1", "result j#1"),
+            ("post thread-a 4", "post thread-a 4"),
+            ("hold Client@p.py:3#1.r 2", "Client@p.py:3#1.r 2"),
+            ("order Pipe#1.r 2", "Pipe#1.r 2"),
+            ("late p.py:9#1 1", "call p.py:9#1"),
+            ("child children.r 1", "child children.r 1"),
+        ]
+        for key, name in rows:
+            self.assertEqual(self.said(key, "words", [("call a", 0.4)], (name, 1.0), "call a"), f"{name.upper()} comes after CALL A")
+
+    def test_without_such_an_order_it_says_what_happened(self) -> None:
+        came = [("call b", "B"), ("result j", "J"), ("call a", "A")]
+        fails = iter([False, True, False, True, False, True, False, True])
+        self.assertEqual(sentence("job j 1", "the thread slept", lambda lengths: Seen(next(fails), came)), "the thread slept")
+
+    def test_one_run_may_differ_and_no_more(self) -> None:
+        early, late = [("result j", "J"), ("call a", "A")], [("call a", "A"), ("result j", "J")]
+        for differing, expected in ((1, "J comes after A"), (2, "the thread slept")):
+            # (of the runs with shorter and shorter delays, the last ones fail though the order is that of those that pass)
+            runs = iter([(False, early), (True, late), *[(True, late)] * (6 - differing), *[(False, late)] * differing])
+            self.assertEqual(sentence("job j 1", "the thread slept", lambda lengths: Seen(*next(runs))), expected)
+
+    def test_how_much_comes_is_said_as_it_was(self) -> None:
+        self.assertEqual(sentence("cut Client#1 1", "the 1st read gave 1 of 9 bytes", self.fail), "the 1st read gave 1 of 9 bytes")
+
+
+if __name__ == "__main__":
+    unittest.main()
