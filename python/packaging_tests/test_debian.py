@@ -144,13 +144,13 @@ class Unpacked(DebianTest):
     def test_the_view_of_a_journal(self) -> None:
         ran = self.installed("deferreds-view", "--text", "--journal", JOURNAL)
         self.assert_ran(ran)
-        self.assertIn("workers.journal: clean: nothing is left\n", ran.output)
+        self.assertIn("workers.journal: nothing is left unfired\n", ran.output)
 
     @needs_release
     def test_the_view_of_a_script_finds_the_program_on_the_path(self) -> None:
         ran = self.installed("deferreds-view", "--text", SCRIPT)
         self.assert_ran(ran)
-        self.assertIn("workers.json: clean: nothing is left\n", ran.output)
+        self.assertIn("workers.json: nothing is left unfired\n", ran.output)
 
     @needs_twisted
     def test_a_program_is_recorded_where_a_link_leads_to_the_package_too(self) -> None:

@@ -86,7 +86,7 @@ class FromTheWheel(InstalledTest):
         view = self.bin / "deferreds-view"
         ran = run(view, "--text", "--journal", JOURNAL, cwd=self.empty)
         self.assert_ran(ran)
-        self.assertIn("workers.journal: clean: nothing is left\n", ran.output)
+        self.assertIn("workers.journal: nothing is left unfired\n", ran.output)
         page = run(view, "--journal", JOURNAL, cwd=self.empty)
         self.assertEqual((page.status, page.errors[:31]), (0, "deferreds-view: workers.html: 1"))
         self.assertEqual(contents(self.empty), ["workers.html"])
@@ -95,7 +95,7 @@ class FromTheWheel(InstalledTest):
     def test_the_view_runs_a_script(self) -> None:
         ran = run(self.bin / "deferreds-view", "--text", SCRIPT, cwd=self.empty)
         self.assert_ran(ran)
-        self.assertIn("workers.json: clean: nothing is left\n", ran.output)
+        self.assertIn("workers.json: nothing is left unfired\n", ran.output)
 
     def test_help_names_the_commands_as_they_are_installed(self) -> None:
         for name in ("deferreds-conform", "deferreds-view"):

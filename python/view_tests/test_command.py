@@ -44,7 +44,7 @@ class Command(unittest.TestCase):
         self.assertEqual(status, 0)
         self.assertTrue(
             output.startswith(
-                "workers.journal: clean: nothing is left\n122 lines, 14 Deferreds, time 0 to 6\n"
+                "workers.journal: nothing is left unfired\n122 lines, 14 Deferreds, time 0 to 6\n"
             )
         )
 
@@ -291,7 +291,7 @@ class Command(unittest.TestCase):
             text=True,
             check=True,
         )
-        self.assertEqual((view.stdout, view.stderr), ("workers.journal: clean: nothing is left\n", ""))
+        self.assertEqual((view.stdout, view.stderr), ("workers.journal: nothing is left unfired\n", ""))
 
 
 if __name__ == "__main__":

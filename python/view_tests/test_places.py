@@ -110,15 +110,16 @@ class ShownTest(unittest.TestCase):
         link = f'<a class=at target=_top href="{_ADDRESS}" title="/srv/a b/&lt;i&gt;.py:12"><bdi>&lt;i&gt;.py:12</bdi></a>'
         self.assertEqual(page.count(link), 2)  # in the report, and at the outcome
         self.assertIn('<span class=at title="relative.py:3"><bdi>relative.py:3</bdi></span>', page)
-        self.assertIn("<th>Made at</th>", page)
-        self.assertIn("/events/1/2/do/0 (&lt;i&gt;.py:15)", page)
+        self.assertIn("<span>Made at</span>", page)
+        self.assertIn("lines that fire one of this name: <", page)
+        self.assertIn("<bdi>&lt;i&gt;.py:15</bdi>", page)
         text = self.view("--text", *self.journal()).output
         self.assertIn("made at <i>.py:12\n", text)
-        self.assertIn("#0 d unfired  (<i>.py:12)\n#1 e ok 1  (relative.py:3)\n", text)
+        self.assertIn("made at <i>.py:12\n#0 d unfired\nmade at relative.py:3\n#1 e ok 1\n", text)
 
     def test_a_file_beside_a_journal_alone_is_used(self) -> None:
         self.write("run.places.json", json.dumps(_PLACES))
-        self.assertIn("<th>Made at</th>", self.page("--journal", str(self.folder / "run.journal")))
+        self.assertIn("<span>Made at</span>", self.page("--journal", str(self.folder / "run.journal")))
 
     def test_without_one_nothing_is_shown_of_places(self) -> None:
         page = self.page(*self.journal())

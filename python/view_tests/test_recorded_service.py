@@ -66,7 +66,7 @@ class Shown(unittest.TestCase):
         run = _run("lost_answer")
         said = _text(written_page(run))
         for text in (
-            "clean: nothing is left",
+            "nothing is left unfired",
             "1 to note",
             'was swallowed: nobody got "milk costs 1"',
             'callback ask_25_2 "milk costs 1" at lost_answer.py:40',

@@ -9,7 +9,7 @@ from typing import List, Optional, Sequence
 from deferreds.checkout import TOP
 from deferreds.view.facts import read_facts
 from deferreds.view.places import Place, Places
-from deferreds.view.report import Kind, Severity
+from deferreds.view.findings import Kind, Severity
 from deferreds.view.run import Run, run_of_facts, run_of_journal
 from deferreds.view.scripts import Script
 from deferreds.view.terminal import Terminal
@@ -22,7 +22,7 @@ def report_of(run: Run) -> List[str]:
     found: List[str] = []
     lines = list(Terminal(run, False).lines())
     for line in lines[1 : lines.index("")]:
-        if line[:3] in ("!! ", " * ", " - "):
+        if line[:3] in ("!! ", " ? ", " * ", " - "):
             found.append(line[3:])
         elif line.startswith(" " * 13) and found:
             found[-1] += f" | {line.strip()}"
@@ -53,7 +53,7 @@ class OfJournals(unittest.TestCase):
     def test_nothing_is_left(self) -> None:
         run = run_of_journal("new #0 d\nfire #0 ok 1\n#0 d ok 1\n", "test")
         self.assertTrue(run.report.is_clean)
-        self.assertEqual(next(iter(Terminal(run, False).lines())), "test: clean: nothing is left")
+        self.assertEqual(next(iter(Terminal(run, False).lines())), "test: nothing is left unfired")
 
     def test_failures(self) -> None:
         self.assertEqual(
@@ -138,7 +138,7 @@ class OfJournals(unittest.TestCase):
         self.assertEqual(
             of_journal(*lines),
             [
-                "token 1 of 1 token of l is given (line 3) | given 1 time, given back 0 times; last given to #0·a (line 3)"
+                "token 1 of 1 token of l is held (line 3) | given 1 time, released 0 times | held for #0·a since line 3"
                 " | #1·b waits for a token of l",
                 "getter 1 waits for a value of q, and nothing is put (line 7) | #2·c waits for a value of q",
             ],
@@ -151,7 +151,7 @@ class OfJournals(unittest.TestCase):
         self.assertEqual(len(of_journal(*cancelled)), 1)
         fired = [*lock, "fire #1 ok 1", "release l", "refuse #1", 'unhandled AlreadyCalledError ""']
         self.assertEqual(
-            of_journal(*fired)[1].split(" | ")[0], "token 1 of 1 token of l is given (line 8)"
+            of_journal(*fired)[1].split(" | ")[0], "token 1 of 1 token of l is held (line 8)"
         )
 
     def test_what_is_due(self) -> None:
@@ -219,7 +219,7 @@ class OfJournals(unittest.TestCase):
     def test_notes(self) -> None:
         lines = ["queue q none none", "put q 1", "put q 2", "new #0 a", "fire #0 ok 1", "refuse #0"]
         found = run_of_journal(journal(*lines), "test").report
-        self.assertTrue(found.is_clean)
+        self.assertEqual((found.is_clean, found.leaves_nothing), (False, True))
         self.assertEqual([one.severity for one in found.findings], [Severity.NOTE, Severity.NOTE])
         self.assertEqual(
             of_journal(*lines),
@@ -229,7 +229,7 @@ class OfJournals(unittest.TestCase):
     def test_a_late_answer_that_was_swallowed_is_a_note(self) -> None:
         lines = ["new #0 d", "cancel #0", 'fire #0 fail CancelledError ""', "add #0", "run #0", "set #0 ok null"]
         run = run_of_journal(journal(*lines, "advance 1", "call answer", "swallow #0"), "test")
-        self.assertTrue(run.report.is_clean)
+        self.assertTrue(run.report.leaves_nothing)
         self.assertEqual(
             report_of(run),
             [
@@ -237,7 +237,7 @@ class OfJournals(unittest.TestCase):
                 " | it was cancelled in line 2, 1 tick before | by after call answer, line 8"
             ],
         )
-        self.assertEqual(next(iter(Terminal(run, False).lines())), "test: clean: nothing is left; 1 to note")
+        self.assertEqual(next(iter(Terminal(run, False).lines())), "test: nothing is left unfired; 1 to note")
 
     def test_what_nobody_got_is_told_where_an_event_fires(self) -> None:
         lines = ["new #0 get_7", "cancel #0", 'fire #0 fail CancelledError ""', "advance 4", "swallow #0", "refuse #0"]
@@ -247,7 +247,7 @@ class OfJournals(unittest.TestCase):
         self.assertEqual(
             report_of(run)[-1],
             'swallowed a late firing of #0·get_7 was swallowed: nobody got "late" (line 5)'
-            " | it was cancelled in line 2, 4 ticks (0.004 s) before"
+            " | it was cancelled in line 2, 0.004 s before"
             ' | by event 3 callback get_7 "late" at read.py:9 | made at get.py:7',
         )
         self.assertEqual([script.fired_with(event) for event in (-1, 0, 3, 4, 5)], ["", "", '"late"', 'E "no"', ""])
@@ -258,7 +258,7 @@ class OfJournals(unittest.TestCase):
             lines += [f"add #{one}", f"fire #{one} ok 1", f"run #{one}", f"wait #{one} #0"]
         fired = [*lines, "fire #0 ok 42", "hand #0 #1 ok 42", "hand #0 #2 ok null"]
         run = run_of_journal(journal(*fired), "test")
-        self.assertTrue(run.report.is_clean)
+        self.assertTrue(run.report.leaves_nothing)
         self.assertEqual(
             report_of(run),
             ["got null #2·b got null from #0·d, whose value was taken before (line 14) | it went to #1·a in line 13"],
@@ -324,7 +324,7 @@ class OfJournals(unittest.TestCase):
     def test_lines_that_are_missing_at_the_beginning_are_told(self) -> None:
         run = run_of_journal(journal("new #0 d", "fire #0 ok 1").split("\n", 1)[1], "test")
         self.assertEqual([str(part) for part in run.problems[0][:2]], ["the beginning is missing: ", "1 Deferred is made in no line: "])
-        self.assertEqual(next(iter(Terminal(run, False).lines())), "test: nothing is left, as far as this can be read")
+        self.assertEqual(next(iter(Terminal(run, False).lines())), "test: nothing is left unfired, as far as this can be read")
 
     def test_what_a_run_has_only_begun_when_it_stopped(self) -> None:
         found = of_journal("new #0 d", "job 0 #0")
@@ -401,7 +401,7 @@ class OfFacts(unittest.TestCase):
         self.assertEqual(
             found,
             [
-                "token 1 of 2 tokens of l is given (line 3) | given 1 time, given back 0 times; last given to #0·a (line 3)"
+                "token 1 of 2 tokens of l is held (line 3) | given 1 time, released 0 times | held for #0·a since line 3 in event 0"
             ],
         )
 

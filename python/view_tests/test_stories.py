@@ -49,7 +49,7 @@ class Trees(unittest.TestCase):
         self.assertEqual(run.durations.of(run.fold.records[0]), (0, 4, 0, 2))
         self.assertEqual(run.durations.of(run.fold.records[1]), (4, 0, 0, 1))
         run.tick = "1/4 s"
-        self.assertIn("waited 4 ticks (1 s)", Tree(run, 0).spent(run.fold.records[0]))
+        self.assertIn("waited 1 s", Tree(run, 0).spent(run.fold.records[0]))
 
     def test_what_a_side_leads_to_is_told_below_it(self) -> None:
         lines = ["new #0 a", "new #1 b", "fire #0 ok 1", "run #0", "new #2 c", "fire #1 ok 1", "run #1", "cancel #2", "set #1 ok 2", "set #0 ok 3"]

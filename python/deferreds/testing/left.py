@@ -9,7 +9,7 @@ from ..twisted.recording.recorder import Recorder
 from ..twisted.recording.saying import Said
 from ..twisted.telling import Advance, Record, Thing
 from ..view.pages import page_of
-from ..view.report import Finding, Kind, Severity
+from ..view.findings import Finding, Kind, Severity
 from ..view.run import Run, run_of
 from ..view.names import PLACES
 from ..view.sources import Source
@@ -81,7 +81,7 @@ def _left(run: Run, said: Said) -> List[str]:
     return [
         terminal.said(finding.said)
         for finding in run.report.findings
-        if finding.severity is not Severity.NOTE and not _came_to_the_program(finding, said)
+        if finding.severity in (Severity.BAD, Severity.LEFT) and not _came_to_the_program(finding, said)
     ]
 
 

@@ -4,7 +4,7 @@ why.
 Writes a page that any browser opens: SCRIPT's name with `.html`, in the folder where the command is run, or FILE. Folders of FILE that
 aren't there are made.
 With several scripts FILE is a folder, and a second one of a name gets `NAME_2.html`. With `-o -` the page goes to
-standard output. `--text` prints the view instead, and `--trace` writes a trace of Chrome's. Without SCRIPT the script is standard
+standard output. `--text` prints the view instead, `--as-json` its report, and `--trace` writes a trace of Chrome's. Without SCRIPT the script is standard
 input. `--journal FILE` shows a journal with its outcomes, as `./deferreds`, `./on_twisted` or `./record` prints it, and runs
 nothing; `--json FILE` shows what `./deferreds --json` has printed. `--compare A B` shows two runs beside each other.
 `--batches BATCHES` runs a script with its posts in that order. `--orders` runs it in every order, and writes a page,
@@ -44,6 +44,7 @@ def parsed(words: List[str]) -> argparse.Namespace:
     add("--open", action="store_true", help="open the page in the browser")
     form = parser.add_mutually_exclusive_group()
     form.add_argument("--text", action="store_true", help="print the view for a terminal")
+    add("--report", action="store_true", help="with --text: print the report and the lines that made Deferreds alone")
     add(
         "--deferred",
         metavar="WHICH",
@@ -54,6 +55,7 @@ def parsed(words: List[str]) -> argparse.Namespace:
         action="store_true",
         help=f"write SCRIPT's name with `{TRACE}`: a trace of Chrome's, which Perfetto opens, in the place of the page",
     )
+    form.add_argument("--as-json", action="store_true", help="print the report and the lines that made Deferreds as JSON")
     source = parser.add_mutually_exclusive_group()
     source.add_argument(
         "--journal",
@@ -123,8 +125,10 @@ def _mistake(options: argparse.Namespace) -> str:
         return "with --places there is one SCRIPT at most"
     if (options.journal or options.json) and several:
         return "a journal, or a run as JSON, has one SCRIPT at most"
-    if options.compare and (options.scripts or options.trace or options.places or numbers):
-        return "--compare takes two FILEs, and neither a SCRIPT nor --trace, --places, --from and --to"
+    if options.compare and (options.scripts or options.trace or options.as_json or options.places or numbers):
+        return "--compare takes two FILEs, and neither a SCRIPT nor --trace, --as-json, --places, --from and --to"
+    if options.report and (not options.text or options.compare or options.deferred is not None):
+        return "--report goes with --text, and without --compare and --deferred"
     if options.deferred is not None and (not options.text or options.compare):
         return "--deferred goes with --text, and without --compare; on a page it is the address that ends with #d=NUMBER"
     if options.batches and not options.compare and (len(options.batches) > 1 or several or options.journal or options.json):
@@ -133,14 +137,14 @@ def _mistake(options: argparse.Namespace) -> str:
         return "with --compare, --batches is given twice: for A, and for B"
     if not all(map(_are_batches, options.batches)):
         return "BATCHES is an array of arrays of posts, [CALLER,POST], as the last line of ./deferreds --json has it"
-    if options.orders and (options.text or options.trace or options.journal or options.json or options.compare or options.batches or numbers):
+    if options.orders and (options.text or options.trace or options.as_json or options.journal or options.json or options.compare or options.batches or numbers):
         return as_called("--orders writes a page of a SCRIPT; of other options it takes -o, --open, --places, --most, --sample and --seed; ./deferreds --orders prints a text")
     if options.most is not None and not (options.orders and 0 <= options.most <= MOST_ORDERS):
         return f"--most is a number from 0 to {MOST_ORDERS}, and goes with --orders"
     if (options.sample, options.seed) != (None, None) and not _is_sample(options):
         return f"--sample K --seed S go with --orders, and without --most: K is from 1 to {MOST_ORDERS}, S from 0 to {MOST_SEED}"
-    if options.trace and options.open:
-        return "--open is for a page, which --trace doesn't write"
+    if (options.trace or options.as_json) and options.open:
+        return "--open is for a page, which --trace and --as-json don't write"
     if options.output == STANDARD and (several or options.open):
         return "with `-o -` there is one SCRIPT at most, and no --open"
     if [options.journal, options.json, options.places, *options.scripts, *(options.compare or [])].count(STANDARD) > 1:

@@ -109,7 +109,14 @@ def _write_bytes(data: bytes, target: str) -> None:
         raise Failed(NO_OUTPUT, f"{target} can't be written: {why}") from None
 
 
-def _print_text(run: Run, asked: Optional[str]) -> None:
+def _print_json(run: Run) -> None:
+    from .as_json import AsJson
+
+    with writing():
+        print(AsJson(run).text())
+
+
+def _print_text(run: Run, asked: Optional[str], only_report: bool) -> None:
     from .branches import found
     from .terminal import Terminal
 
@@ -119,7 +126,8 @@ def _print_text(run: Run, asked: Optional[str]) -> None:
     if numbers is None:
         raise Failed(NO_INPUT, f"{visible(run.title)} has no Deferred {visible(clipped(asked or '', 100))}")
     with writing():
-        for line in chain.from_iterable(map(terminal.tree, numbers)) if asked is not None else terminal.lines():
+        lines = terminal.report() if only_report else terminal.lines()
+        for line in chain.from_iterable(map(terminal.tree, numbers)) if asked is not None else lines:
             print(line)
 
 
@@ -200,7 +208,9 @@ def _status_of(show: Callable[[], None]) -> int:
 
 def _show(one: Inputs, arguments: argparse.Namespace, inputs: List[Inputs], target: str) -> None:
     if arguments.text:
-        return _print_text(one.run(), arguments.deferred)
+        return _print_text(one.run(), arguments.deferred, arguments.report)
+    if arguments.as_json:
+        return _print_json(one.run())
     _check_target(target, inputs)
     if arguments.orders:
         return _show_orders(InOrders(one, _orders_words(arguments)), arguments, target)

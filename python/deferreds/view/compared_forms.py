@@ -9,8 +9,9 @@ from .document import asset, policy_hash
 from .lines import WORDS
 from .markup import isolated
 from .records import Record, Row, ended
-from .report import Severity
+from .findings import Severity
 from .shapes import CLASSES, SIGNS
+from .sizes import several
 from .texts import Html, clipped, escaped, joined, visible
 
 #: how many of the common lines stand above the first that differs, and how many lines and outcomes are shown at most
@@ -122,8 +123,13 @@ def _cell(side: Side, row: Row) -> Html:
 def _report(side: Side) -> List[str]:
     """How many rows a run's report has."""
     report = side.run.report
-    counts = ((Severity.BAD, "to look at"), (Severity.LEFT, "left at the end"), (Severity.NOTE, "to note"))
-    return [f"{report.count(severity)} {word}" for severity, word in counts if report.count(severity)]
+    counts = (
+        (Severity.BAD, "to look at", "to look at"),
+        (Severity.LIKELY, "likely cause", "likely causes"),
+        (Severity.LEFT, "left at the end", "left at the end"),
+        (Severity.NOTE, "to note", "to note"),
+    )
+    return [several(report.count(severity), one, more) for severity, one, more in counts if report.count(severity)]
 
 
 def text_lines(compared: Compared) -> Iterator[str]:

@@ -7,14 +7,14 @@ from typing import Dict, Iterator, List, Optional, Tuple
 from .axis import Axis
 from .events import Events
 from .lines import WORDS
-from .markup import isolated, placed
+from .outcomes import Outcomes
 from .phrases import OfDeferred
-from .records import ArrowKind, Ended, Look, Record, State, ended
-from .report import Finding, Kind, Severity
+from .records import ArrowKind, Look, State
+from .findings import Finding, Kind, Severity
 from .run import Run
-from .shapes import CLASSES, SAYS, SIGNS, arrow, bar
+from .shapes import SAYS, arrow, bar
 from .sizes import AT_A_TIME, parts_of, several
-from .texts import Html, escaped, joined, shortened
+from .texts import Html, escaped, joined
 from .units import seconds_of
 from .windows import Window
 
@@ -22,15 +22,21 @@ from .windows import Window
 NARROW = 600
 
 _FEW_FINDINGS, _MOST_FINDINGS = 8, 200
-_FEW_OUTCOMES, _MOST_ODD, _MOST_OK = 16, 200, 2_000
-_MOST_TEXT, _MOST_VALUE, _LEAST_VALUE, _MOST_DETAILS = 300, 200, 60, 8
+_MOST_TEXT, _MOST_DETAILS = 300, 8
 _PAPER = 1_123
 
 _TITLES = {
     Severity.BAD: "To look at",
+    Severity.LIKELY: "Likely causes",
     Severity.LEFT: "What is left, and why",
     Severity.NOTE: "Notes",
 }
+_COUNTED = (
+    (Severity.BAD, "to look at", "to look at"),
+    (Severity.LIKELY, "likely cause", "likely causes"),
+    (Severity.LEFT, "left at the end", "left at the end"),
+    (Severity.NOTE, "to note", "to note"),
+)
 _LEGEND_BARS = (State.UNFIRED, State.RUN, State.OK, State.FAIL, State.WAIT)
 _LEGEND_SIGNS: Dict[State, str] = {
     State.UNFIRED: "○ ",
@@ -62,7 +68,8 @@ class Page:
         self._events = Events(run.fold, run.script, run.places)
         self._shown = Window(run, self._events, self.window, self.there)
         self._rows, self._markup = self._shown.rows, self._shown.markup
-        self._shown_outcomes()
+        self._ends = Outcomes(run, self._markup)
+        self._markup.outcomes = self._ends.numbers
         self._axis = Axis(run, self._markup)
         #: whether what isn't open at first comes later
         self._later = True
@@ -100,7 +107,7 @@ class Page:
         yield Html("<main>")
         yield from self._verdict(escaped(self._run.title))
         yield from self._report()
-        yield from self._outcomes()
+        yield from self._ends.pieces(self._later)
         yield Html("<section id=tree hidden></section>")
         yield from self._axis.pieces(not self._later)
         yield from self._above_chart()
@@ -127,16 +134,12 @@ class Page:
         report = self._run.report
         yield Html("<nav><a href=#outcomes>outcomes</a> · <a href=#what>what happened</a> · <a href=#find>find</a></nav>")
         yield Html(f"<h1>{title}</h1><p>")
-        for severity, word in ((Severity.BAD, "to look at"), (Severity.LEFT, "left at the end")):
+        for severity, one, more in _COUNTED:
             if report.count(severity):
-                yield Html(
-                    f'<span class="verdict {severity.value}">{report.count(severity)} {word}</span>'
-                )
-        if report.is_clean:
-            look = "note" if self._run.problems else "clean"
+                yield Html(f'<span class="verdict {severity.value}">{several(report.count(severity), one, more)}</span>')
+        if report.leaves_nothing:
+            look = "clean" if report.is_clean and not self._run.problems else "note"
             yield Html(f'<span class="verdict {look}">{self._run.nothing}</span>')
-        if report.count(Severity.NOTE):
-            yield Html(f'<span class="verdict note">{report.count(Severity.NOTE)} to note</span>')
         yield Html(f"<span class=facts>{escaped(self._run.counts)}</span></p>")
         if self._run.order:
             order = escaped(f"--batches '{self._run.order}'")
@@ -190,69 +193,6 @@ class Page:
         number = next((part.number for part in finding.said if isinstance(part, OfDeferred)), None)
         return Html(f' <span class=why>· <a href="#d={number}">its tree</a></span>' if number in self._markup.outcomes else "")
 
-    def _shown_outcomes(self) -> None:
-        """Chooses which outcomes are shown: all where they are few, and else those that aren't a value first."""
-        every = list(self._run.fold.records.values())
-        odd = [record for record in every if ended(record.end) is not Ended.OK]
-        good = [record for record in every if ended(record.end) is Ended.OK]
-        self._first = every if len(every) <= _FEW_OUTCOMES else odd[:_MOST_ODD]
-        self._good = [] if len(every) <= _FEW_OUTCOMES else good
-        self._untold = 0 if len(every) <= _FEW_OUTCOMES else max(0, len(odd) - _MOST_ODD)
-        self._markup.outcomes = {record.number for record in [*self._first, *self._good[:_MOST_OK]]}
-
-    def _outcomes(self) -> Iterator[Html]:
-        yield Html("<h2 id=outcomes>Outcomes</h2>")
-        if self._first:
-            yield self._table(self._first)
-        if self._untold:
-            yield Html(f"<p class=facts>and {self._untold} more that didn't end with a value</p>")
-        if self._good:
-            shown = self._good[:_MOST_OK]
-            of = f", {len(shown)} of them here" if len(shown) < len(self._good) else ""
-            table = Html("") if self._later else self._table(shown)
-            yield Html(f"<details id=good><summary>{len(self._good)} that ended with a value{of}</summary>{table}</details>")
-        if not self._run.fold.records:
-            yield Html("<p class=facts>No Deferred was made.</p>")
-
-    def _table(self, records: List[Record]) -> Html:
-        most = _MOST_VALUE if len(records) <= _MOST_ODD else _LEAST_VALUE
-        made = "<th>Made at</th>" if self._run.places else ""
-        head = f"<tr><th>No.</th><th>Name</th><th>At the end</th><th>Value</th><th>Fired by</th><th>How long</th>{made}</tr>"
-        return Html(f"<table class=ends>{head}{joined(self._outcome(record, most) for record in records)}</table>")
-
-    def _outcome(self, record: Record, most: int) -> Html:
-        end = ended(record.end)
-        value = {Ended.OK: record.end[3:], Ended.FAIL: record.end[5:], Ended.PAUSED: record.end[7:]}.get(
-            end, ""
-        )
-        shown = isolated(shortened(value, most)) if value else Html("")
-        if end is Ended.WAIT and record.waits is not None:
-            shown = Html(f"for {self._markup.deferred(record.waits)}")
-        fired = Html("<span class=facts>never</span>")
-        if record.fired is not None:
-            why = Html(f": {self._markup.said(record.fired_by, 60)}") if record.fired_by else Html("")
-            fired = Html(f"{self._markup.line(record.fired)}{why}")
-        return Html(
-            f'<tr id="d={record.number}" data-d={record.number}><td class=mono>{self._markup.deferred(record.number, named=False)}</td>'
-            f'<td class="mono name">{escaped(", ".join(record.names))}</td>'
-            f'<td class="state t-{CLASSES[end]}">{SIGNS[end]} {end.value}</td><td class="mono value">{shown}</td><td>{fired}</td>'
-            f"<td class=why>{self._spent(record)}</td>"
-            f"{self._made_at(record)}</tr>"
-        )
-
-    def _spent(self, record: Record) -> str:
-        """How long the Deferred was unfired, waited and was paused, where that took time, how many of its sides ran, and how many
-        firings had no effect."""
-        spent, ticks = self._run.durations.of(record), self._run.ticks
-        parts = [f"{word} {ticks(count)}" for word, count in (("unfired", spent.unfired), ("waited", spent.waited), ("paused", spent.paused)) if count]
-        return ", ".join([*parts, *([several(spent.sides, "side", "sides")] if spent.sides else []), *record.in_vain])
-
-    def _made_at(self, record: Record) -> Html:
-        if not self._run.places:
-            return Html("")
-        place = self._run.places.of_deferred(record.names)
-        return Html(f"<td>{placed(place) if place is not None else ''}</td>")
-
     # the chart
 
     def _above_chart(self) -> Iterator[Html]:
@@ -293,8 +233,7 @@ class Page:
     @property
     def later(self) -> List[Tuple[str, Html]]:
         """What isn't open at first, each with the id of what holds it."""
-        good = [("good", self._table(self._good[:_MOST_OK]))] if self._good else []
-        return good + ([("time", joined(self._axis.table()))] if self._axis.is_there else [])
+        return self._ends.later + ([("time", joined(self._axis.table()))] if self._axis.is_there else [])
 
     @property
     def numbers(self) -> List[int]:

@@ -2,12 +2,13 @@
 
 from __future__ import annotations
 
-import enum
-from typing import Callable, Iterator, List, NamedTuple, Optional, Sequence, Set, Tuple, Type, TypeVar
+from typing import Callable, Iterator, List, Optional, Sequence, Set, Tuple, Type, TypeVar
 
 from .causes import in_whom
+from .findings import Finding, Kind, Severity, details_of
 from .fold import Fold
 from .hanging import Circle, End, Hanging, Root
+from .inferred import Inferred
 from .left import (
     At,
     Left,
@@ -33,53 +34,7 @@ from .world import Shelf, T
 
 _MOST_HELD = 6
 
-
-class Severity(enum.Enum):
-    """How bad it is: to look at, left, or only a note."""
-
-    BAD = "bad"
-    LEFT = "left"
-    NOTE = "note"
-
-
-class Kind(enum.Enum):
-    """What a row of the report tells of, the worst first."""
-
-    STOPPED = "stopped"
-    UNMET = "unmet"
-    CUT = "cut off"
-    UNHANDLED = "unhandled"
-    FAILURE = "failure"
-    CIRCLE = "circle"
-    UNFIRED = "unfired"
-    PAUSED = "paused"
-    WAITING = "waiting"
-    TOKEN = "token"
-    GETTER = "getter"
-    CALL = "call"
-    TIMER = "timer"
-    TICK = "tick"
-    JOB = "job"
-    LOOP = "loop"
-    TASK = "task"
-    STORED = "stored"
-    REFUSED = "refused"
-    SWALLOWED = "swallowed"
-    GOT_NULL = "got null"
-
-
 _KINDS = list(Kind)
-
-
-class Finding(NamedTuple):
-    """A row of the report."""
-
-    severity: Severity
-    kind: Kind
-    said: Phrase
-    details: Tuple[Phrase, ...]
-    #: the row of the journal that it links
-    row: Optional[int]
 
 
 L = TypeVar("L")
@@ -92,10 +47,6 @@ def _guess(shelf: Shelf[T], name: str) -> List[Phrase]:
     return [(f"the name {name} was bound more than once: which of them a line means is a guess",)]
 
 
-def _details(*parts: Sequence[Phrase]) -> Tuple[Phrase, ...]:
-    return tuple(phrase for part in parts for phrase in part if phrase)
-
-
 class Report:
     """What is left of a run."""
 
@@ -105,10 +56,13 @@ class Report:
         left: Sequence[Left],
         finish: Finish,
         script: Script,
+        inferred: Inferred,
         places: Places = NOWHERE,
         ticks: Callable[[int], str] = str,
     ) -> None:
+        self._inferred = inferred
         self._places_of = places
+        self._is_recorded = bool(places)
         self._ticks = ticks
         self._fold = fold
         self._left = left
@@ -118,6 +72,9 @@ class Report:
         self._timers = {(timer.deferred, timer.due): timer.row for timer in fold.world.timers}
         self._failed = {one.number for one in left if isinstance(one, LeftFailure)}
         found = [*self._bad(finish), *self._open(), *self._notes()]
+        found += inferred.went_on()
+        found += inferred.odd({record.number for record in fold.records.values() if record.swallowed})
+        found += inferred.overtaken(bool(found))
         self.findings: List[Finding] = sorted(found, key=lambda finding: _KINDS.index(finding.kind))
 
     def count(self, severity: Severity) -> int:
@@ -126,6 +83,11 @@ class Report:
 
     @property
     def is_clean(self) -> bool:
+        """Whether it has no row at all."""
+        return not self.findings
+
+    @property
+    def leaves_nothing(self) -> bool:
         """Whether there is nothing to look at, and nothing left."""
         return not self.count(Severity.BAD) + self.count(Severity.LEFT)
 
@@ -136,7 +98,7 @@ class Report:
         """Who hangs on this, each with its reason."""
         self._told.add(end)
         held = [number for number in self._hanging.on.get(end, []) if number not in but]
-        said = [self._hanging.reason(number) for number in held[:_MOST_HELD]]
+        said = [self._hanging.reason(number) + self._where(number) for number in held[:_MOST_HELD]]
         if len(held) > _MOST_HELD:
             said.append((f"and {len(held) - _MOST_HELD} more hang on this",))
         return said
@@ -222,7 +184,7 @@ class Report:
         for number in (*circle.ring, circle.ring[0]):
             said += words(" → ", OfDeferred(number)) if said else words(OfDeferred(number))
         first = self._fold.records.get(circle.ring[0])
-        details = _details(
+        details = details_of(
             [("each waits for the next: nobody can end this",)], self._held(circle, circle.ring)
         )
         row = (
@@ -247,7 +209,7 @@ class Report:
                     Severity.LEFT,
                     Kind.WAITING,
                     self._hanging.reason(held[0]),
-                    _details(self._held(end, held[:1])),
+                    details_of(self._held(end, held[:1])),
                     record.row if record is not None else None,
                 )
 
@@ -270,8 +232,13 @@ class Report:
         if record.awaits is not None:
             stopped = [("its body has awaited ", OfDeferred(record.awaits), ", and didn't end")]
         places = self._places(record) if record.made is Made.ACTION else ()
-        details = _details(
-            self._made_at(record), [places], stopped, [(pairs,)] if record.pairs else [], self._held(end, [record.number])
+        details = details_of(
+            self._made_at(record),
+            self._inferred.among(record),
+            [places],
+            stopped,
+            [(pairs,)] if record.pairs else [],
+            self._held(end, [record.number]),
         )
         said: Phrase = ("nobody fired ", OfDeferred(record.number), paused)
         return Finding(Severity.LEFT, Kind.UNFIRED, said, details, record.row)
@@ -281,8 +248,16 @@ class Report:
         place = self._places_of.of_deferred(record.names)
         return [("made at ", OfPlace(place))] if place is not None else []
 
+    def _where(self, number: int) -> Phrase:
+        """Where in the program a Deferred was made that waits for something, if that is known; of a body, what it awaits says where."""
+        record = self._fold.records.get(number)
+        place = self._places_of.of_deferred(record.names) if record is not None and record.awaits is None else None
+        return words(", made at ", OfPlace(place)) if place is not None else words()
+
     def _places(self, record: Record) -> Phrase:
         """Where the script fires a Deferred of this name, or makes one that something else is to fire."""
+        if self._is_recorded:
+            return self._lines(record)
         if not self._script.events or not record.names:
             return ()
         for word, places in (
@@ -290,14 +265,15 @@ class Report:
             ("make", self._script.making(record.names)),
         ):
             if places:
-                shown: List[Part] = [OfScript(self._with_line(place)) for place in places]
+                shown: List[Part] = [OfScript(place) for place in places]
                 return (f"actions of the script that {word} one of this name: ", *listed(shown, 3))
         return ("no action of the script fires a Deferred of this name",)
 
-    def _with_line(self, pointer: str) -> str:
-        """A place of the script, with the line of the program, where that is known."""
-        place = self._places_of.of_action(pointer)
-        return f"{pointer} ({place.text})" if place is not None else pointer
+    def _lines(self, record: Record) -> Phrase:
+        """The lines of the program that fire a Deferred of this name."""
+        known = [self._places_of.of_action(pointer) for pointer in self._script.firing(record.names)]
+        lines = [place for place in dict.fromkeys(known) if place is not None]
+        return ("lines that fire one of this name: ", *listed([OfPlace(place) for place in lines], 3)) if lines else ()
 
     def _paused(self, record: Record, end: End) -> Finding:
         times = f" {record.pauses} times" if record.pauses > 1 else ""
@@ -306,7 +282,7 @@ class Report:
             Severity.LEFT,
             Kind.PAUSED,
             said,
-            _details(self._held(end, [record.number])),
+            details_of(self._held(end, [record.number])),
             record.paused_at,
         )
 
@@ -326,28 +302,9 @@ class Report:
         lock = self._fold.world.locks.at(one.number)
         if lock is None:
             return None
-        is_given = "is given" if one.given == 1 else "are given"
-        said: Phrase = (
-            f"{one.given} of {several(one.tokens, 'token', 'tokens')} of {lock.name} {is_given}",
-        )
-        last: List[Part] = []
-        history: List[Phrase] = []
-        for deferred, row in lock.last_given:
-            last += [", "] if last else []
-            last += [OfDeferred(deferred), " (", OfLine(row), ")"]
-        if last:
-            counts = f"given {several(lock.times_given, 'time', 'times')}, given back {several(lock.times_back, 'time', 'times')}"
-            history = [(f"{counts}; last given to ", *last)]
-        details = _details(
-            history, self._held(Root(At.LOCK, one.number)), _guess(self._fold.world.locks, lock.name)
-        )
-        return Finding(
-            Severity.LEFT,
-            Kind.TOKEN,
-            said,
-            details,
-            lock.last_given[-1][1] if lock.last_given else lock.row,
-        )
+        waiting = self._held(Root(At.LOCK, one.number))
+        found = self._inferred.token(one, lock, waiting)
+        return found._replace(details=found.details + tuple(_guess(self._fold.world.locks, lock.name)))
 
     def _getters(self, one: LeftGetters) -> Optional[Finding]:
         queue = self._fold.world.queues.at(one.number)
@@ -356,7 +313,7 @@ class Report:
         waits = several(len(one.waiting), "waits", "wait")
         said: Phrase = (f"{waits} for a value of {queue.name}, and nothing is put",)
         return Finding(
-            Severity.LEFT, Kind.GETTER, said, _details(self._held(Root(At.QUEUE, one.number))), queue.row
+            Severity.LEFT, Kind.GETTER, said, details_of(self._held(Root(At.QUEUE, one.number))), queue.row
         )
 
     def _due(self, one: Left) -> Optional[Finding]:
@@ -402,7 +359,7 @@ class Report:
             if one.waits_for:
                 said += (" and waits for ", *listed([OfDeferred(number) for number in one.waits_for], 3))
         row = loop.later if one.due is not None and loop.later is not None else loop.turned
-        details = _details(
+        details = details_of(
             self._held(Root(At.LOOP, one.number)), _guess(self._fold.world.loops, loop.name)
         )
         return Finding(Severity.LEFT, Kind.LOOP, said, details, row)
@@ -417,7 +374,7 @@ class Report:
         elif one.pauses > 0:
             said = (f"task {task.name} is paused",)
         row = task.held[1] if task.held is not None else task.row
-        details = _details(
+        details = details_of(
             self._held(Root(At.TASK, one.number)), _guess(self._fold.world.tasks, task.name)
         )
         return Finding(Severity.LEFT, Kind.TASK, said, details, row)
@@ -455,7 +412,9 @@ class Report:
         fired_with = self._script.fired_with(row.actor.number) if row.actor.by is By.EVENT else ""
         answer: Part = OfScript(fired_with) if fired_with else "its answer"
         said: Phrase = ("a late firing of ", OfDeferred(record.number), " was swallowed: nobody got ", answer)
-        details = _details(self._cancelled(record, row), [self._by(row)], self._made_at(record))
+        details = details_of(
+            self._cancelled(record, row), [self._by(row)], self._made_at(record), self._inferred.among(record), self._inferred.again(record)
+        )
         return Finding(Severity.NOTE, Kind.SWALLOWED, said, details, place)
 
     def _cancelled(self, record: Record, late: Row) -> List[Phrase]:
@@ -477,4 +436,4 @@ class Report:
         if place + 1 < len(rows) and rows[place + 1].entry.word == "unhandled":
             return
         said: Phrase = ("a second firing of ", OfDeferred(record.number))
-        yield Finding(Severity.NOTE, Kind.REFUSED, said, _details([self._by(rows[place])]), place)
+        yield Finding(Severity.NOTE, Kind.REFUSED, said, details_of([self._by(rows[place])]), place)

@@ -8,6 +8,7 @@ from .batches import Batches, text_of
 from .durations import Durations
 from .facts import Facts, read_facts
 from .fold import Fold
+from .inferred import Inferred
 from .left import Left, LeftDeferred, left_of
 from .lines import parts, read_end, read_line
 from .phrases import Phrase
@@ -19,7 +20,7 @@ from .sections import places_of
 from .sizes import counts_of, several
 from .sources import Source
 from .stories import Stories
-from .units import in_seconds
+from .units import said_of
 
 
 class Run:
@@ -48,6 +49,7 @@ class Run:
         #: how long a tick was where the run was recorded, as `1 ms`, or an empty text
         self.tick = ""
         self.durations = Durations(fold.rows)
+        self._inferred: Optional[Inferred] = None
         self._report: Optional[Report] = None
         self._stories: Optional[Stories] = None
 
@@ -64,21 +66,27 @@ class Run:
         return bool(self.tick or self.places)
 
     def ticks(self, count: int) -> str:
-        """So many ticks in words, with the seconds that they were where the run was recorded."""
-        seconds = in_seconds(count, self.tick)
-        return several(count, "tick", "ticks") + (f" ({seconds})" if seconds else "")
+        """So many ticks in words: in seconds, if the run was recorded."""
+        return said_of(count, self.tick)
+
+    @property
+    def inferred(self) -> Inferred:
+        """What no line tells: causes, and the lines of the program that made Deferreds."""
+        if self._inferred is None:
+            self._inferred = Inferred(self.fold, self.script, self.places, self.durations, self.tick)
+        return self._inferred
 
     @property
     def report(self) -> Report:
         """What is left, and why."""
         if self._report is None:
-            self._report = Report(self.fold, self.left, self.finish, self.script, self.places, self.ticks)
+            self._report = Report(self.fold, self.left, self.finish, self.script, self.inferred, self.places, self.ticks)
         return self._report
 
     @property
     def nothing(self) -> str:
         """What is said where the report has nothing to look at, and nothing left."""
-        return "nothing is left, as far as this can be read" if self.problems else "clean: nothing is left"
+        return "nothing is left unfired" + (", as far as this can be read" if self.problems else "")
 
     @property
     def limits(self) -> str:
@@ -103,7 +111,8 @@ class Run:
     def counts(self) -> str:
         """How large the run is."""
         fold = self.fold
-        return counts_of(len(fold.rows), len(fold.records), len(self.script.events), fold.world.now, self.tick, self.weight or "")
+        weight = "" if self.is_recorded or self.weight is None else self.weight
+        return counts_of(len(fold.rows), len(fold.records), len(self.script.events), fold.world.now, self.tick, weight)
 
 
 #: the words of the lines after which nothing comes, since a Deferred isn't as the script expects

@@ -3,7 +3,7 @@
 from __future__ import annotations
 
 import json
-from typing import Any, Dict, Iterator, List, Optional, Sequence, Tuple
+from typing import Any, Dict, FrozenSet, Iterator, List, Optional, Sequence, Tuple
 
 from ..language import LANGUAGE, Form, Word
 from ..repeats import written_out
@@ -82,6 +82,11 @@ class Script:
     def making(self, names: Sequence[str]) -> List[str]:
         """The places of the actions that make a Deferred of one of the names, which a list, a lock or the like is to fire."""
         return [place for name in dict.fromkeys(names) for place in self._found()[1].get(name, ())]
+
+    @property
+    def bodies(self) -> FrozenSet[str]:
+        """The names of the Deferreds of inline bodies."""
+        return frozenset(_text(action[1]) for action, _ in _actions(self.events, "") if len(action) > 1 and action[0] == "inline")
 
     def _found(self) -> Tuple[Places, Places]:
         if self._places is None:

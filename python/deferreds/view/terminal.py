@@ -2,23 +2,31 @@
 
 from __future__ import annotations
 
-from typing import Dict, Iterator, List, Optional
+from typing import Dict, Iterator, List, Optional, Sequence
 
 from .branches import Tree
 from .events import Events
 from .phrases import OfDeferred, OfEvent, OfLine, OfPlace, OfScript, Part, Phrase
 from .places import Place
 from .records import By, Ended, Record, Row, ended
-from .report import Finding, Severity
+from .findings import Finding, Severity
 from .run import Run
+from .sites import Site
+from .sizes import several
 from .texts import clipped, visible
+from .units import said_of
 
 _DEEPEST = 12
-_MOST_LINE, _MOST_TEXT, _MOST_EVENT = 160, 200, 100
+_MOST_LINE, _MOST_TEXT, _MOST_EVENT, _MOST_SITE, _MOST_ODD = 160, 200, 100, 40, 5
+#: the head of the table of lines of the program
+_HEAD = ("made at", "made", "ended", "half unfired up to", "longest", "odd")
 
 _COLORS = {"good": "32", "bad": "31", "wait": "33", "run": "36", "strong": "1", "dim": "2"}
-_SIGNS = {Severity.BAD: "!!", Severity.LEFT: " *", Severity.NOTE: " -"}
-_TONES = {Severity.BAD: "bad", Severity.LEFT: "wait", Severity.NOTE: "dim"}
+_SIGNS = {Severity.BAD: "!!", Severity.LIKELY: " ?", Severity.LEFT: " *", Severity.NOTE: " -"}
+_TONES = {Severity.BAD: "bad", Severity.LIKELY: "strong", Severity.LEFT: "wait", Severity.NOTE: "dim"}
+
+#: what is counted behind the verdict
+_OTHERS = ((Severity.LIKELY, "likely cause", "likely causes"), (Severity.NOTE, "to note", "to note"))
 
 _WORD_TONES: Dict[str, str] = {
     **dict.fromkeys(("fire", "hand", "take", "set"), "good"),
@@ -43,15 +51,37 @@ class Terminal:
 
     def lines(self) -> Iterator[str]:
         """All lines, each without its end."""
-        yield from self._verdict()
-        for finding in self._run.report.findings:
-            yield from self._finding(finding)
+        yield from self.report()
         yield ""
         for row in self._run.fold.rows:
             yield from self._row(row)
         yield ""
-        for record in self._run.fold.records.values():
-            yield self._outcome(record)
+        yield from self._outcomes()
+
+    def report(self) -> Iterator[str]:
+        """The report, and the lines of the program that made Deferreds."""
+        yield from self._verdict()
+        for finding in self._run.report.findings:
+            yield from self._finding(finding)
+        sites = self._run.inferred.sites.all
+        if sites:
+            yield ""
+            yield from self._table([_HEAD, *map(self._cells, sites)])
+
+    def _cells(self, site: Site) -> Sequence[str]:
+        """What the table says of a line of the program."""
+        tick = self._run.tick
+        named = [f"#{number}" for number in site.odd[:_MOST_ODD]]
+        more = [f"and {len(site.odd) - _MOST_ODD} more"] if len(site.odd) > _MOST_ODD else []
+        made = visible(clipped(f"{site.place.text} {site.function}".rstrip(), _MOST_SITE))
+        return made, f"{len(site.records)}", site.said, said_of(site.median, tick), said_of(site.longest, tick), " ".join([*named, *more])
+
+    def _table(self, rows: Sequence[Sequence[str]]) -> Iterator[str]:
+        """Rows of texts, each column as wide as its longest text."""
+        widths = [max(map(len, column)) for column in zip(*rows)]
+        for place, row in enumerate(rows):
+            text = "  ".join(f"{cell:<{width}}" for cell, width in zip(row, widths)).rstrip()
+            yield self._toned("dim" if place == 0 else None, text)
 
     def tree(self, number: int) -> Iterator[str]:
         """The tree of a Deferred."""
@@ -93,9 +123,9 @@ class Terminal:
             f"{report.count(severity)} {word}" for severity, word in counts if report.count(severity)
         ]
         verdict = ", ".join(parts) if parts else self._run.nothing
-        tone = "bad" if report.count(Severity.BAD) else "wait" if parts else "good"
-        notes = report.count(Severity.NOTE)
-        yield f"{visible(self._run.title)}: {self._toned(tone, verdict)}{f'; {notes} to note' if notes else ''}"
+        tone = "bad" if report.count(Severity.BAD) else "wait" if parts else "good" if report.is_clean else None
+        others = [f"; {several(report.count(severity), one, more)}" for severity, one, more in _OTHERS if report.count(severity)]
+        yield f"{visible(self._run.title)}: {self._toned(tone, verdict)}{''.join(others)}"
         yield self._run.counts
         if self._run.order:
             yield f"posts were taken in this order: --batches '{self._run.order}'"
@@ -141,11 +171,22 @@ class Terminal:
             said.append(f"   ┄ {visible(clipped(tail, _MOST_EVENT) + self._at(self._events.place(row)))}")
         return "".join(said)
 
+    def _outcomes(self) -> Iterator[str]:
+        """All outcomes, by the lines of the program that made these Deferreds, where that is known."""
+        sites = self._run.inferred.sites
+        for site in sites.all:
+            yield self._toned("strong", visible(f"made at {site.place.text}"))
+            yield from map(self._outcome, site.records)
+        others = [record for record in self._run.fold.records.values() if record.number not in sites.of]
+        if sites.all and others:
+            yield self._toned("strong", "made in no line that is known")
+        yield from map(self._outcome, others)
+
     def _outcome(self, record: Record) -> str:
         end = ended(record.end)
         tone = "good" if end is Ended.OK else "bad" if end is Ended.FAIL else "wait"
         text = f"#{record.number} {record.name or '-'} {clipped(record.end, _MOST_TEXT)}"
-        return self._toned(tone, visible(text + self._at(self._run.places.of_deferred(record.names))))
+        return self._toned(tone, visible(text))
 
     @staticmethod
     def _at(place: Optional[Place]) -> str:

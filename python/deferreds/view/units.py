@@ -2,6 +2,8 @@
 
 from __future__ import annotations
 
+from .sizes import several
+
 #: how many of each unit a second has
 _IN_A_SECOND = {"s": 1, "ms": 1_000, "µs": 1_000_000, "ns": 1_000_000_000}
 
@@ -19,3 +21,8 @@ def in_seconds(ticks: int, tick: str) -> str:
     if not tick:
         return ""
     return f"{seconds:.0f} s" if seconds >= 1_000 else f"{seconds:.4g} s" if seconds >= 0.001 or not seconds else f"{seconds * 1000:.3g} ms"
+
+
+def said_of(ticks: int, tick: str) -> str:
+    """So many ticks in words: in seconds, if it is known how long a tick was."""
+    return in_seconds(ticks, tick) if tick else several(ticks, "tick", "ticks")

@@ -30,6 +30,9 @@ class Thing:
 
 T = TypeVar("T", bound=Thing)
 
+#: what the moves of a lock have in the place of a Deferred if a token is released
+RELEASED = -1
+
 #: among how many objects of one name the one is looked for that a line means
 _MOST_CANDIDATES = 50
 
@@ -82,18 +85,16 @@ class Lock(Thing):
         self.given = 0
         #: who waits for a token, in order
         self.line: Line = OrderedDict()
-        #: whom the last tokens were given to, and in which rows
-        self.last_given: List[Tuple[int, int]] = []
-        self.times_given = self.times_back = 0
+        #: what became of its tokens: the Deferred that got one, or RELEASED, and the row
+        self.moves: List[Tuple[int, int]] = []
 
     def give(self, deferred: int, row: int) -> None:
         """A token is given to this Deferred."""
-        self.times_given += 1
-        self.last_given = [*self.last_given[-2:], (deferred, row)]
+        self.moves.append((deferred, row))
 
     def serve(self, row: int) -> Optional[int]:
         """A token is released: it goes to the first waiter, which is returned, or to none."""
-        self.times_back += 1
+        self.moves.append((RELEASED, row))
         first = next(iter(self.line), None)
         if first is None:
             self.given -= 1

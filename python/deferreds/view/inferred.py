@@ -1,0 +1,210 @@
+"""Causes that no line tells, as rows of the report: a token that is never released, a body that went on after a cancel, a Deferred that
+is odd among those of its line, a result that was overtaken. What each says is exact, unless it says otherwise; that it is the cause is a
+guess, but for the token.
+"""
+
+from __future__ import annotations
+
+from typing import Dict, List, Optional, Sequence, Set, Tuple
+
+from .after_cancel import WentOn, went_on
+from .bodies import Bodies
+from .causes import in_whom
+from .durations import Durations
+from .findings import Finding, Kind, Severity, details_of
+from .fold import Fold
+from .left import LeftTokens
+from .overtaken import Overtaken, overtaken
+from .phrases import OfDeferred, OfLine, OfPlace, OfScript, Phrase, words
+from .places import Place, Places
+from .records import Record
+from .scripts import Script
+from .sites import FAIL, Site, Sites, end_of
+from .sizes import several
+from .tokens import Held, Holders, asked_in
+from .units import said_of
+from .world import Lock
+
+_MOST_HELD = 3
+
+
+class Inferred:
+    """What may be the cause of what is left, or of what went another way than usual."""
+
+    def __init__(self, fold: Fold, script: Script, places: Places, durations: Durations, tick: str) -> None:
+        self._fold = fold
+        self._script = script
+        self._places = places
+        self._durations = durations
+        self._tick = tick
+        #: the lines of the program that made Deferreds
+        self.sites = Sites(fold, places, durations, tick)
+        self._known_bodies: Optional[Bodies] = None
+        self._asked: Dict[int, int] = {}
+        #: the bodies that awaited a Deferred last, by its number; and what each body made at each line
+        self._awaiting: Dict[int, List[int]] = {}
+        self._made_by: Dict[Tuple[Place, int], List[Record]] = {}
+        for record in fold.records.values():
+            if record.awaits is not None:
+                self._awaiting.setdefault(record.awaits, []).append(record.number)
+
+    @property
+    def _bodies(self) -> Bodies:
+        if self._known_bodies is None:
+            self._known_bodies = Bodies(self._fold, self._script.bodies)
+            self._asked = asked_in(self._fold)
+            self._note_bodies(self._known_bodies)
+        return self._known_bodies
+
+    def _note_bodies(self, bodies: Bodies) -> None:
+        """Notes what each body made at each line."""
+        for record in self._fold.records.values():
+            site, body = self.sites.of.get(record.number), bodies.acting.get(record.row)
+            if site is not None and body is not None:
+                self._made_by.setdefault((site.place, body), []).append(record)
+
+    # tokens
+
+    def token(self, one: LeftTokens, lock: Lock, waiting: Sequence[Phrase]) -> Finding:
+        """The tokens of a lock that are held at the end, with who waits for one."""
+        bodies = self._bodies
+        holders = Holders(self._fold, bodies, self._asked, lock)
+        first = next(iter(holders.held), None)
+        guess: List[Phrase] = [] if holders.is_sure else [("which of its tokens were released is a guess",)]
+        given = sum(deferred >= 0 for deferred, _ in lock.moves)
+        back = len(lock.moves) - given
+        counts: Phrase = (f"given {several(given, 'time', 'times')}, released {several(back, 'time', 'times')}",)
+        is_held = "is held" if one.given == 1 else "are held"
+        said: Phrase = (f"{one.given} of {several(one.tokens, 'token', 'tokens')} of {lock.name} {is_held}",)
+        lost = next((held for held in holders.held if self._is_lost(held)), None)
+        if lost is None or lost.body is None:
+            details = details_of([counts], [self._holds(held) for held in holders.held[:_MOST_HELD]], guess, waiting)
+            return Finding(Severity.LEFT, Kind.TOKEN, said, details, first.row if first is not None else lock.row)
+        severity = Severity.BAD if waiting or self._failed(lost.body) else Severity.LEFT
+        rest = [self._holds(held) for held in holders.held if held is not lost]
+        details = details_of([self._ended(lost.body)], rest[:_MOST_HELD], guess, [(*said, ": ", *counts)], waiting)
+        taken = words(OfDeferred(lost.body), f" took a token of {lock.name}", *self._at(lost.deferred), " and never released it")
+        return Finding(severity, Kind.HELD, taken, details, lost.row)
+
+    def _is_lost(self, held: Held) -> bool:
+        """Whether the body that has a token ended without releasing it, and nothing that it made of the token goes on."""
+        token = self._fold.records[held.deferred]
+        return held.body is not None and self._fold.records[held.body].fired is not None and not token.is_stuck
+
+    def _failed(self, body: int) -> bool:
+        return end_of(self._fold, self._fold.records[body]) == FAIL
+
+    def _at(self, number: int) -> Phrase:
+        """Where in the program a Deferred was made, as the end of a sentence, if that is known."""
+        place = self._places.of_deferred(self._fold.records[number].names)
+        return words(" at ", OfPlace(place)) if place is not None else words()
+
+    def _made(self, number: int) -> Phrase:
+        """Where a Deferred was made, between commas."""
+        at = self._at(number)
+        return words(", made", *at, ",") if at else words()
+
+    def _ended(self, body: int) -> Phrase:
+        """How a body ended, and in which line."""
+        record = self._fold.records[body]
+        if record.fired is None:
+            return ()
+        outcome = self._fold.rows[record.fired].entry.outcome
+        text = outcome.text.removeprefix("fail ").removeprefix("ok ") if outcome is not None else ""
+        how = "failed with " if self._failed(body) else "returned "
+        return ("its body ", how, OfScript(text), " in ", OfLine(record.fired))
+
+    def _holds(self, held: Held) -> Phrase:
+        """Who holds a token, since when, and what for."""
+        token = self._fold.records[held.deferred]
+        since = words(" since ", OfLine(held.row), *self._at(held.deferred))
+        if token.waits is not None:
+            return ("held for ", OfDeferred(held.deferred), *since, ", which waits for ", OfDeferred(token.waits))
+        if held.body is None:
+            by = in_whom(self._fold.said_by(self._fold.rows[held.row].actor))
+            return ("held for ", OfDeferred(held.deferred), *since, *by)
+        body = self._fold.records[held.body]
+        if body.fired is None and body.awaits is not None:
+            return ("held by ", OfDeferred(held.body), *since, ", whose body awaits ", OfDeferred(body.awaits))
+        return ("held by ", OfDeferred(held.body), *since)
+
+    # Deferreds among those of their line
+
+    def among(self, record: Record) -> List[Phrase]:
+        """How the others were of the line that made a Deferred, if that one is odd among them."""
+        site = self.sites.of.get(record.number)
+        return [(self._others(site),)] if site is not None and record.number in self.sites.odd else []
+
+    def _others(self, site: Site) -> str:
+        median = said_of(site.median, self._tick)
+        return f"{len(site.records)} were made there: {site.said}; half were unfired for at most {median}"
+
+    def odd(self, told: Set[int]) -> List[Finding]:
+        """The Deferreds that were cancelled, and are odd among those of their line; without those that other rows tell of."""
+        return [
+            self._odd(self._fold.records[number], site)
+            for site in self.sites.all
+            for number in site.odd
+            if number not in told and self._fold.records[number].cancelled is not None
+        ]
+
+    def _odd(self, record: Record, site: Site) -> Finding:
+        cancel = record.cancelled or 0
+        by = in_whom(self._fold.said_by(self._fold.rows[cancel].actor))
+        said = words(OfDeferred(record.number), f" was unfired for {said_of(self.sites.unfired(record), self._tick)}, and then cancelled")
+        made = words("made at ", OfPlace(site.place))
+        cancelled = words("it was cancelled in ", OfLine(cancel), *by)
+        guess = words("a guess, since it is odd among these: ", self._others(site))
+        details = details_of([made, guess], self._waiters(record), self.again(record), [cancelled])
+        return Finding(Severity.LIKELY, Kind.ODD, said, details, record.row)
+
+    def _waiters(self, record: Record) -> List[Phrase]:
+        """The bodies that awaited a Deferred last."""
+        numbers = self._awaiting.get(record.number, [])
+        return [("the inline body of ", OfDeferred(number), *self._made(number), " awaited it") for number in numbers[:_MOST_HELD]]
+
+    def again(self, record: Record) -> List[Phrase]:
+        """What the body that made a cancelled Deferred made at the same line after the cancel: a retry, it seems."""
+        cancel, site, body = record.cancelled, self.sites.of.get(record.number), self._bodies.acting.get(record.row)
+        if site is None or body is None or cancel is None:
+            return []
+        after = [one for one in self._made_by[site.place, body] if one.row > cancel]
+        return [("after that the body of ", OfDeferred(body), " made another there: ", OfDeferred(one.number), *self._got(one)) for one in after[:1]]
+
+    def _got(self, record: Record) -> Phrase:
+        """What a Deferred was fired with, as the end of a sentence."""
+        outcome = self._fold.rows[record.fired].entry.outcome if record.fired is not None else None
+        return words(", fired with ", OfScript(outcome.text)) if outcome is not None else words()
+
+    # bodies that went on
+
+    def went_on(self) -> List[Finding]:
+        """The bodies that went on after a cancel."""
+        return list(map(self._went_on, went_on(self._fold)))
+
+    def _went_on(self, one: WentOn) -> Finding:
+        body, rows = one.body, self._fold.rows
+        by = in_whom(self._fold.said_by(rows[one.cancel].actor))
+        said = words(OfDeferred(body.number), *self._made(body.number), " went on after it was cancelled")
+        awaited = rows[one.awaited[0]].entry.other
+        next_one = words("then its body awaited ", OfDeferred(awaited), *self._made(awaited), " in ", OfLine(one.awaited[0]))
+        more = [(several(len(one.awaited) - 1, "more await followed", "more awaits followed"),)] if len(one.awaited) > 1 else []
+        cancelled = words("it was cancelled in ", OfLine(one.cancel), *by)
+        guess = words("a guess: it may only clean up")
+        return Finding(Severity.LIKELY, Kind.WENT_ON, said, details_of([cancelled, next_one], more, [self._ended(body.number), guess]), one.awaited[0])
+
+    # results that came late
+
+    def overtaken(self, only_jobs: bool) -> List[Finding]:
+        """The results that came after those of what began later; only those of jobs, if there are other causes."""
+        found = overtaken(self._fold, self.sites)
+        return [self._overtaken(one) for one in found if one.of_job or not only_jobs]
+
+    def _overtaken(self, one: Overtaken) -> Finding:
+        late, first = one.late, one.first
+        what = "the result of the job of " if one.of_job else "the result of "
+        said = words(what, OfDeferred(late.number), " came after that of ", OfDeferred(first.number), ", which began later")
+        made = words("both began at ", OfPlace(one.site.place), ", in ", OfLine(late.row), " and ", OfLine(first.row))
+        came = words("they came in ", OfLine(late.fired or 0), " and ", OfLine(first.fired or 0))
+        guess = words("a guess: it isn't known whether the order matters")
+        return Finding(Severity.NOTE, Kind.OVERTAKEN, said, (made, came, guess), late.fired)

@@ -1,0 +1,188 @@
+"""Recorded services with real bugs: the first screen names the cause, and the line of the program. A mended one has none.
+
+The programs are in `data/services` of this folder's parent, and were recorded in /srv/shop.
+"""
+
+from __future__ import annotations
+
+import json
+import unittest
+from pathlib import Path
+from typing import Dict, List, NamedTuple
+
+from deferreds.view.as_json import AsJson
+from deferreds.view.findings import Finding, Kind, Severity
+from deferreds.view.inputs import Inputs
+from deferreds.view.pages import written_page
+from deferreds.view.run import Run
+from deferreds.view.terminal import Terminal
+
+from .test_browser import InBrowser
+
+_RECORDINGS = Path(__file__).resolve().parent / "data" / "services"
+_PROGRAMS = Path(__file__).resolve().parents[1] / "data" / "services"
+_SCREEN = 900
+
+
+class Cause(NamedTuple):
+    """What the first row of a report says: its kind, and texts that it has; and lines of the program, each with what is there."""
+
+    kind: Kind
+    says: List[str]
+    lines: Dict[str, str]
+
+
+_CAUSES = {
+    "ledger": Cause(
+        Kind.HELD,
+        ["transfer_48_5 took a token", "never released it", 'failed with Refused "dan has 5, not 9"', "do_balance_40_4 waits for a token"],
+        {"ledger.py:53": "await self.lock(second).acquire()", "ledger.py:40": "yield lock.acquire()"},
+    ),
+    "payments": Cause(
+        Kind.SWALLOWED,
+        ['nobody got "receipt-13 card-6 312"', "14 were made there: 13 ok, 1 cancelled", 'made another there: #98·ask_33_13, fired with ok "receipt-12 card-6 312"'],
+        {"wire.py:33": "defer.Deferred()", "wire.py:41": "answer.callback("},
+    ),
+    "payments_small": Cause(
+        Kind.ODD,
+        ["was unfired for 0.12 s, and then cancelled", "7 were made there: 6 ok, 1 cancelled", "the body of #27·charge_61_4 made another there", "a guess"],
+        {"wire.py:33": "defer.Deferred()"},
+    ),
+    "warehouse": Cause(
+        Kind.ODD,
+        ["was unfired for 1.4", "43 were made there: 41 ok, 1 cancelled, 1 fail", "order_103_7", "a guess"],
+        {"wire.py:33": "defer.Deferred()", "warehouse.py:103": "shop.order("},
+    ),
+    "stock_levels": Cause(
+        Kind.OVERTAKEN,
+        ["the result of the job of #2·refresh_33 came after that of #6·refresh_33_2, which began later", "a guess"],
+        {"stock_levels.py:33": "threads.deferToThread(self.store.read, item)"},
+    ),
+    "mailer": Cause(Kind.GETTER, ["1 waits for a value", "the inline body of #2·work_26"], {"mailer.py:35": "self.letters.get()"}),
+    "feeds": Cause(
+        Kind.WENT_ON,
+        ["read_58_4", "went on after it was cancelled", 'failed with RemoteError "stocks"', "a guess"],
+        {"feeds.py:58": "reader.read(feed)", "feeds.py:43": "task.deferLater"},
+    ),
+}
+
+_MENDED = ("ledger", "payments", "warehouse", "stock_levels", "mailer")
+
+
+def run_of_service(name: str) -> Run:
+    """The run of a recorded service, with what stands beside its script."""
+    return Inputs(str(_RECORDINGS / f"{name}.json")).run()
+
+
+def _said(run: Run, finding: Finding) -> str:
+    terminal = Terminal(run, False)
+    return " | ".join(map(terminal.said, (finding.said, *finding.details)))
+
+
+class Causes(unittest.TestCase):
+    """The reports of the services."""
+
+    def test_the_first_row_names_the_cause_and_the_line_of_the_program(self) -> None:
+        for name, cause in _CAUSES.items():
+            with self.subTest(name):
+                run = run_of_service(name)
+                first = run.report.findings[0]
+                self.assertEqual(first.kind, cause.kind)
+                for text in (*cause.says, *cause.lines):
+                    self.assertIn(text, _said(run, first))
+
+    def test_the_lines_are_those_of_the_programs(self) -> None:
+        for cause in _CAUSES.values():
+            for place, there in cause.lines.items():
+                file, _, line = place.partition(":")
+                self.assertIn(there, (_PROGRAMS / file).read_text(encoding="utf-8").splitlines()[int(line) - 1])
+
+    def test_a_mended_service_has_none(self) -> None:
+        for name in _MENDED:
+            with self.subTest(name):
+                run = run_of_service(f"{name}_mended")
+                self.assertEqual([_said(run, finding) for finding in run.report.findings], [])
+                self.assertIn('<span class="verdict clean">nothing is left unfired</span>', written_page(run))
+
+    def test_a_late_answer_to_what_was_cancelled_on_purpose_is_only_a_note(self) -> None:
+        run = run_of_service("feeds_mended")
+        self.assertEqual([finding.kind for finding in run.report.findings], [Kind.SWALLOWED])
+        self.assertNotIn("made another there", _said(run, run.report.findings[0]))
+
+    def test_nothing_is_green_while_there_is_a_row(self) -> None:
+        for name in (*_CAUSES, "feeds_mended"):
+            self.assertNotIn('class="verdict clean"', written_page(run_of_service(name)), name)
+
+    def test_other_programs_get_the_same_rows_as_json(self) -> None:
+        for name, cause in _CAUSES.items():
+            run = run_of_service(name)
+            told = json.loads(AsJson(run).text())
+            first = told["report"][0]
+            self.assertEqual((first["kind"], first["line"]), (cause.kind.value, (run.report.findings[0].row or 0) + 1))
+            places = {f"{Path(place['file']).name}:{place['line']}" for place in first["places"]}
+            self.assertLessEqual(set(cause.lines), places, name)
+            self.assertEqual({place["file"].rpartition("/")[0] for place in first["places"]}, {"/srv/shop"})
+
+
+class ByLine(unittest.TestCase):
+    """The table of lines that made Deferreds."""
+
+    def test_the_lost_answer_stands_out_among_those_of_its_line(self) -> None:
+        run = run_of_service("warehouse")
+        first = json.loads(AsJson(run).text())["made"][0]
+        self.assertEqual((first["file"], first["line"], first["function"], first["made"]), ("/srv/shop/wire.py", 33, "ask", 43))
+        self.assertEqual(first["ended"], {"ok": 41, "cancelled": 1, "fail": 1})
+        self.assertEqual(first["odd"], [114])
+        self.assertGreater(first["longest"]["seconds"], 50 * first["median"]["seconds"])
+        lost = next(one for one in first["deferreds"] if one["number"] == 114)
+        self.assertEqual(lost["unfired"], first["longest"])
+        self.assertEqual(sum(line["made"] for line in json.loads(AsJson(run).text())["made"]), len(run.inferred.sites.of))
+
+    def test_a_mended_service_has_no_odd_one(self) -> None:
+        for name in _MENDED:
+            self.assertEqual([site.odd for site in run_of_service(f"{name}_mended").inferred.sites.all if site.odd], [], name)
+
+    def test_text_and_page_have_the_same_lines(self) -> None:
+        run = run_of_service("ledger")
+        lines = list(Terminal(run, False).report())
+        table = lines[lines.index("") + 1 :]
+        self.assertEqual(table[0].split("  ")[0], "made at")
+        self.assertEqual(len(table) - 1, len(run.inferred.sites.all))
+        self.assertRegex(table[1], r"^wire\.py:33 ask +16 +13 ok, 1 fail, 2 unfired +0\.033 s +0\.8\d+ s +#71 #100$")
+        page = written_page(run)
+        self.assertEqual(page.count("<summary class=site>"), len(run.inferred.sites.all))
+        self.assertIn("<span>13 ok, 1 fail, 2 unfired</span><span>0.033 s</span>", page)
+
+    def test_the_outcomes_of_a_text_stand_below_their_lines(self) -> None:
+        lines = list(Terminal(run_of_service("mailer"), False).lines())
+        at = lines.index("made at mailer.py:35")
+        self.assertTrue(lines[at + 1].startswith("#4 work_35 ok ") or lines[at + 1].startswith("#3 work_35 ok "), lines[at + 1])
+        self.assertEqual(sum(line.startswith("#") for line in lines), 30)
+
+
+class FirstScreen(InBrowser):
+    """What is seen of a page before anything is scrolled."""
+
+    def test_the_cause_is_on_it(self) -> None:
+        self.browser.resize(1280, _SCREEN)
+        for name, cause in _CAUSES.items():
+            with self.subTest(name):
+                self.show(run_of_service(name))
+                row = "document.querySelector('.report tr')"
+                self.assertEqual(self.asked(f"{row}.cells[0].textContent"), cause.kind.value)
+                self.assertLess(self.asked(f"{row}.getBoundingClientRect().bottom"), _SCREEN)
+                said = self.asked(f"{row}.innerText")
+                for place in cause.lines:
+                    self.assertIn(place, said)
+
+    def test_a_line_opens_to_its_deferreds(self) -> None:
+        self.show(run_of_service("warehouse"))
+        shown = "document.querySelector('#site-0 tr[data-d=\"114\"]').checkVisibility()"
+        self.assertFalse(self.asked(shown))
+        self.browser.click("#site-0 > summary")
+        self.assertTrue(self.asked(shown))
+        self.assertEqual(self.asked("document.querySelectorAll('#site-0 tr[data-d]').length"), 43)
+
+
+if __name__ == "__main__":
+    unittest.main()
