@@ -4,6 +4,7 @@ from __future__ import annotations
 
 import json
 import re
+import shutil
 import signal
 import unittest
 from pathlib import Path
@@ -159,7 +160,7 @@ class SearchTest(RecordingCase):
     def test_a_mended_program_passes(self) -> None:
         ended = self.shake("--shake", "4", "mended/timeout_beats.py")
         self.assertEqual((ended.status, self.files()), (0, []), ended.said)
-        self.assertRegex(ended.said, r"^record: none of 4 shaken runs failed, [\d.]+ s; --until left also looks at what they leave\n$")
+        self.assertRegex(ended.said, r"^record: none of 4 shaken runs failed, [\d.]+ s; they met \d+ perturbations\n$")
 
     def test_a_run_that_hangs_is_recorded_as_it_hangs(self) -> None:
         ended = self.shake("--shake", "60", "--shaken", "start", "--within", "3", "--no-cut", "hangs.py")
@@ -183,6 +184,43 @@ class SearchTest(RecordingCase):
         self.assertIn("plain run 1 of 3 fails, which isn't shaken: `false` has status 1\n", wrong.said)
         self.assertIn("nothing is shaken, since no plain run passes\n", wrong.said)
 
+    def test_a_test_is_shaken_alone(self) -> None:
+        shutil.copy(_SHAKEN / "test_deposits.py", self.folder)
+        words = ["--shaken", "start,job", "--longest", "900", "--no-cut", "--test", "test_deposits.DepositTest.test_two"]
+        ended = self.record("--shake", "20", *words)
+        self.assertEqual(ended.status, 1, ended.said)
+        self.assertRegex(ended.said, r"twisted.trial.unittest.FailTest: \d+ != 130\n")
+        self.assertEqual(self.scripts(), ["test_two"])
+        self.assertNotIn("written", self.files())
+
+    def test_all_tests_of_a_module_are_shaken_each_alone(self) -> None:
+        shutil.copy(_SHAKEN / "test_deposits.py", self.folder)
+        ended = self.record("--shake", "8", "--shaken", "hold,order,cut", "--test", "test_deposits")
+        self.assertEqual(ended.status, 2, ended.said)
+        said = re.split(r"record: test_deposits\.", ended.said)[1:]
+        self.assertEqual([part.split("\n")[0] for part in said], ["ConnectionTest.test_closed_at_the_end", "DepositTest.test_two", "WrongTest.test_wrong"])
+        # (a janitor that looks while something is held back calls the first one unclean)
+        self.assertRegex(said[0], r"none of 8 shaken runs failed, [\d.]+ s; they met \d+ perturbations\n")
+        self.assertIn("it is wrong\n", said[2])
+        self.assertIn("nothing is shaken, since no plain run passes\n", said[2])
+        self.assertEqual(self.files(), ["test_deposits.py"])
+
+    def test_a_test_that_is_not_there_is_refused(self) -> None:
+        ended = self.record("--shake", "3", "--test", "no_such_module")
+        self.assertEqual(ended.status, 66)
+        self.assertRegex(ended.said, "^record: no_such_module can't be loaded: .*\n$")
+
+    def test_trial_shakes_tests_on_a_reactor(self) -> None:
+        shutil.copy(_SHAKEN / "test_deposits.py", self.folder)
+        words = ["--shake", "20", "--reactor", "select", "--deferreds-record", "out", "test_deposits.DepositTest", "test_deposits.ConnectionTest"]
+        ran = run(["-m", "deferreds.twisted", "trial", *words], self.folder, environment())
+        self.assertEqual((ran.returncode, ran.stdout), (0, ""), ran.stderr)
+        self.assertEqual(len(re.findall(r"none of 20 shaken runs failed, [\d.]+ s; they met \d+ perturbations\n", ran.stderr)), 2, ran.stderr)
+        for wrong, said in ((["--reactor", "nix", "test_deposits"], "there is no reactor nix"), ([], "--shake needs the name of a test")):
+            refused = run(["-m", "deferreds.twisted", "trial", "--shake", "2", *wrong], self.folder, environment())
+            self.assertNotEqual(refused.returncode, 0)
+            self.assertIn(said, refused.stderr)
+
     def test_ctrl_c_ends_the_search_and_the_run(self) -> None:
         process = self.start("--shake", "9", "--within", "50", str(_SHAKEN / "waits.py"))
         begun = self.folder / "begun"
@@ -205,8 +243,11 @@ class SearchTest(RecordingCase):
             (["--shake", "3", "--shaken", "wind"], "--shaken has no wind: start, job, "),
             (["--shake", "3", "--virtual"], "needs a real reactor"),
             (["--shake", "3", "--last", "9"], "--shake and --last don't go together"),
-            (["--shake", "0"], "it isn't from 1 on"),
-            (["--shake", "2", "--longest", "nan"], "it isn't more than 0"),
+            (["--shake", "0"], "0 isn't a number from 1 on"),
+            (["--shake", "some"], "some isn't a number from 1 on"),
+            (["--shake", "2", "--seed", "-1"], "-1 isn't a number from 0 on"),
+            (["--shake", "2", "--longest", "nan"], "nan isn't a number of more than 0"),
+            (["--shake", "2", "--reactor", "poll"], "--reactor is for --test; a program installs its own"),
         ]
         for words, said in rows:
             ended = self.shake(*words, "waits.py")

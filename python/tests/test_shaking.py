@@ -191,7 +191,8 @@ class JudgeTest(unittest.TestCase):
     def test_an_error_that_plain_runs_log_too_is_none(self) -> None:
         plain = [ended(errors=["KeyError"]), ended(errors=["KeyError", "ValueError"])]
         found = whys(STATUS, plain, [ended(errors=["ValueError", "KeyError"]), ended(errors=["KeyError"] * 2), ended(errors=["OSError"])])
-        self.assertEqual(found, [None, "an error is logged: KeyError", "an error is logged: OSError"])
+        self.assertEqual(found, [None, None, "an error is logged: OSError"])
+        self.assertIsNone(Judge(STATUS, 5.0, plain, looks_at_log=False).why(ended(errors=["OSError"])))
 
     def test_what_is_left_is_looked_at_if_asked(self) -> None:
         runs = [ended(left=["a", "b"]), ended(left=["a", "a"])]

@@ -1,11 +1,13 @@
 """`deferreds-trial --deferreds-record FOLDER [WORDS OF TRIAL..]`: trial, which leaves a recording of each test that failed or
 left something behind.
 
-All words are those of trial beside `--deferreds-record FOLDER` and `--deferreds-plain KIND,..`.
+All words are those of trial beside `--deferreds-record FOLDER` and `--deferreds-plain KIND,..`. `deferreds-trial --shake N MODULE..` runs
+each test alone, and shaken, as `--shake N --test` of `deferreds-record` does; what fails is recorded in FOLDER, or in the current one.
 """
 
 from __future__ import annotations
 
+import os
 import sys
 from pathlib import Path
 from typing import Any, Callable, List, Optional, Tuple
@@ -15,6 +17,7 @@ from twisted.scripts import trial
 from twisted.trial.unittest import TestCase
 
 from ..ending import print_text, writing
+from ..twisted.commands import record
 from ..twisted.recording.case import without_own_frames
 from . import cases
 from .folder import NotUsable
@@ -22,6 +25,7 @@ from .recorded import RecordedTest, RecordedTests
 
 _OPTION = "deferreds-record"
 _PLAIN = "deferreds-plain"
+_SHAKE, _SEED = "shake", "seed"
 
 _Options: Any = trial.Options
 _run: Callable[[], object] = trial.run
@@ -33,7 +37,21 @@ class Options(_Options):
     optParameters = [
         [_OPTION, None, None, "leave a recording in this folder of each test that failed or left something behind"],
         [_PLAIN, None, "", "record these kinds of objects as the Python that they are made of"],
+        [_SHAKE, None, None, "run each test this many times, shaken by a seed each time, and record the first run that fails"],
+        [_SEED, None, None, "with --shake: the first seed"],
     ]
+
+    #: whether tests are shaken: then the reactor isn't installed in this process
+    shakes = False
+
+    def opt_reactor(self, shortName: str) -> None:
+        """Which reactor to use (see --help-reactors for a list of possibilities)"""
+        if self.shakes:
+            self["reactor"] = shortName
+        else:
+            super().opt_reactor(shortName)
+
+    opt_r = opt_reactor
 
     def opt_help(self) -> None:
         """Display this help and exit."""
@@ -47,6 +65,10 @@ class Options(_Options):
 
     def postOptions(self) -> None:
         """Has trial's reporter record each test, where that is asked for."""
+        if self[_SHAKE]:
+            if not self["tests"]:
+                raise usage.UsageError(f"--{_SHAKE} needs the name of a test, of a module or of a package")
+            raise _Shaken(self)
         super().postOptions()
         if not self[_OPTION]:
             return
@@ -60,6 +82,24 @@ class Options(_Options):
             raise usage.UsageError(f"--{_OPTION}: {why}") from None
         cases.install()
         self["reporter"] = _recording(self["reporter"], tests)
+
+
+class _Shaken(Exception):
+    """Tests are shaken, by these options, and trial isn't run."""
+
+    def __init__(self, options: Options) -> None:
+        super().__init__()
+        self.options = options
+
+
+def _shake(options: Any) -> int:
+    """Shakes each of the tests. Gives 1 if one fails, and else 2 if one fails alone."""
+    words = ["--shake", options[_SHAKE], "-o", os.path.join(options[_OPTION] or os.curdir, "")]
+    for name, option in ((_SEED, "--seed"), ("reactor", "--reactor"), (_PLAIN, "--plain")):
+        if options.get(name):
+            words += [option, options[name]]
+    statuses = [record.main([*words, "--test", test]) for test in options["tests"]]
+    return min(filter(None, statuses), default=0)
 
 
 def _recording(reporter: Any, tests: RecordedTests) -> Any:
@@ -124,8 +164,11 @@ def main(words: List[str]) -> int:
     sys.path.insert(0, str(Path.cwd()))
     before, sys.argv = sys.argv, ["deferreds-trial", *words]
     setattr(trial, "Options", Options)
+    Options.shakes = any(word == f"--{_SHAKE}" or word.startswith(f"--{_SHAKE}=") for word in words)
     try:
         _run()
+    except _Shaken as shaken:
+        return _shake(shaken.options)
     except SystemExit as exit_:
         if not isinstance(exit_.code, str):
             raise

@@ -39,6 +39,7 @@ import importlib.util
 import os
 import shutil
 import sys
+import tempfile
 from importlib.machinery import PathFinder
 from pathlib import Path
 from typing import List, Optional, Set, Tuple
@@ -46,6 +47,7 @@ from typing import List, Optional, Set, Tuple
 from ...arguments import USAGE, Parser
 from ...checkout import as_called, command_name
 from ...ending import ProgramStatus
+from ...program import NOT_RUN
 from ...view.names import PLACES
 
 from ..instruments import install
@@ -66,8 +68,9 @@ from ..shaking.choices import Choices
 from ..shaking.install import install as install_shaking
 from ..shaking.options import TAKE_WORD, add_options, problem_of, settings_of, wanted_of
 from ..shaking.plain import run_plain
-from ..shaking.search import Program, Search
+from ..shaking.search import FAILED, PASSED, UNUSABLE, Program, Search
 from ..shaking.shaker import Shaker
+from ..shaking.tests import ShakenTest, has_reactor, names_of, record_one, run_test
 from ..telling import KINDS
 
 _NO_PROGRAM = 66
@@ -249,6 +252,40 @@ def _shake(arguments: argparse.Namespace, messages: Messages) -> int:
     return Search(program, wanted_of(arguments), keeping.place, messages).run()
 
 
+def _shake_tests(arguments: argparse.Namespace, messages: Messages) -> int:
+    """Shakes each test of this name alone. Gives 1 if one of them failed, and else 2 if one fails unshaken."""
+    try:
+        names = names_of(arguments.test)
+    except NotLoaded as why:
+        raise Refused(_NO_PROGRAM, str(why)) from None
+    reactor = arguments.reactor or ""
+    if reactor and not has_reactor(reactor):
+        raise Refused(USAGE, f"there is no reactor {reactor}")
+    statuses: Set[int] = set()
+    with tempfile.TemporaryDirectory(prefix="deferreds.") as room:
+        for name in names:
+            messages.say(name)
+            statuses.add(_shake_test(arguments, messages, ShakenTest(name, room, reactor), len(names) == 1))
+    return next(status for status in (FAILED, NOT_RUN, UNUSABLE, PASSED) if status in {*statuses, PASSED})
+
+
+def _shake_test(arguments: argparse.Namespace, messages: Messages, test: ShakenTest, is_only: bool) -> int:
+    """Shakes a test. Its recording has the name of its method, or that of its class, too, if it isn't the only one."""
+    arguments.view = True
+    parts = test.name.split(".")
+    usual = parts[-1] if is_only else ".".join(parts[-2:])
+    kinds = KINDS - set(arguments.plain.split(","))
+
+    def recorded(name: str) -> int:
+        keeping = _keeping(arguments, name, Messages(command_name("record")))
+        status, recorder = record_one(test, kinds, arguments.redact)
+        keeping.keep(Said(recorder), "failed" if status else "passed")
+        return status
+
+    place = _keeping(arguments, _name(arguments.output, usual), messages).place
+    return Search(Program(lambda: run_test(test), recorded), wanted_of(arguments), place, messages).run()
+
+
 def _test(arguments: argparse.Namespace, messages: Messages) -> int:
     try:
         found = tests_of(arguments.test)
@@ -286,7 +323,7 @@ def main(words: List[str]) -> int:
             # modules are looked for as `python3 -m` does it, also where the command is installed
             set_first_folder(os.getcwd())
         if arguments.shake is not None:
-            return _shake(arguments, messages)
+            return _shake_tests(arguments, messages) if arguments.test else _shake(arguments, messages)
         if arguments.seed is not None:
             install_shaking(Shaker(Choices(settings_of(arguments))))
         return _test(arguments, messages) if arguments.test else _program(arguments, messages)

@@ -26,10 +26,14 @@ class Why(NamedTuple):
 class Judge:
     """Judges runs."""
 
-    def __init__(self, until: str, most: float, plain: Sequence[Ended]) -> None:
-        """`until`: STATUS, LEFT or a command. `most`: how many seconds a run may take. `plain`: runs that pass."""
+    def __init__(self, until: str, most: float, plain: Sequence[Ended], looks_at_log: bool = True) -> None:
+        """`until`: STATUS, LEFT or a command. `most`: how many seconds a run may take. `plain`: runs that pass.
+
+        `looks_at_log`: errors that are logged count. A test judges them itself.
+        """
         self._until = until
         self._most = most
+        self._looks_at_log = looks_at_log
         #: what some plain run has logged, and has left
         self._errors: Counts[str] = Counter()
         self._left: Counts[str] = Counter()
@@ -43,8 +47,8 @@ class Judge:
             return Why(True, f"it takes longer than {self._most:g} s")
         if ended.status:
             return Why(False, f"its status is {ended.status}" if ended.status > 0 else f"signal {-ended.status} ends it")
-        errors = sorted(ended.errors - self._errors)
-        if errors:
+        errors = sorted(set(ended.errors) - set(self._errors))
+        if errors and self._looks_at_log:
             return Why(False, f"an error is logged: {', '.join(errors)}")
         if self._until == LEFT:
             return self._why_left(ended)

@@ -5,11 +5,13 @@ with that alone is recorded.
 from __future__ import annotations
 
 import itertools
-from typing import Any, Callable, Dict, FrozenSet, List, Mapping, NamedTuple, Optional, Sequence
+from collections import Counter
+from typing import Any, Callable, Counter as Counts, Dict, FrozenSet, List, Mapping, NamedTuple, Optional, Sequence
 
 from ...checkout import command_name
 from ...program import NOT_RUN
 from ...view.names import PLACES
+from ...view.sizes import several
 from ..recording.files import Place
 from ..recording.messages import Messages
 from .choices import Choices, Settings
@@ -57,6 +59,8 @@ class Wanted(NamedTuple):
     until: str
     most_seconds: float
     cuts: bool
+    #: whether errors that are logged count
+    looks_at_log: bool = True
 
 
 class Found(NamedTuple):
@@ -75,9 +79,10 @@ class Search:
         self._wanted = wanted
         self._place = place
         self._progress = Progress(messages)
-        self._judge = Judge(wanted.until, wanted.most_seconds, ())
-        #: how many runs were made
+        self._judge = self._judging(())
+        #: how many runs were made, and how many perturbations of which kind the shaken ones have met
         self._count = 0
+        self.met: Counts[str] = Counter()
         self._is_kept = False
 
     def run(self) -> int:
@@ -106,6 +111,9 @@ class Search:
             self._explain(found)
         return FAILED
 
+    def _judging(self, plain: Sequence[Ended]) -> Judge:
+        return Judge(self._wanted.until, self._wanted.most_seconds, plain, self._wanted.looks_at_log)
+
     # the runs
 
     def _has_plain(self) -> bool:
@@ -114,13 +122,13 @@ class Search:
         for number in range(1, _PLAIN + 1):
             self._progress.show(f"plain run {number} of {_PLAIN}")
             ended = self._plain()
-            why = Judge(self._wanted.until, self._wanted.most_seconds, [*passing, ended]).why(ended)
+            why = self._judging([*passing, ended]).why(ended)
             if why is None:
                 passing.append(ended)
                 continue
             self._say_output(ended)
             self._progress.say(f"plain run {number} of {_PLAIN} fails, which isn't shaken: {why.text}{_longer(why)}")
-        self._judge = Judge(self._wanted.until, self._wanted.most_seconds, passing)
+        self._judge = self._judging(passing)
         if not passing:
             self._progress.say("nothing is shaken, since no plain run passes")
         return bool(passing)
@@ -139,13 +147,15 @@ class Search:
             self._progress.show(f"{number} of {runs(times)}")
             settings = self._wanted.settings._replace(seed=first + number)
             ended = self._shaken(settings)
+            self.met.update(key.split(" ", 1)[0] for key in ended.met)
             why = self._judge.why(ended)
             if why is not None:
                 self._say_output(ended)
                 self._progress.say(f"seed {settings.seed} fails, after {runs(number + 1)}, {self._progress.seconds}: {why.text}")
                 return Found(settings, why, ended)
-        hint = "" if self._wanted.until == LEFT else "; --until left also looks at what they leave"
-        self._progress.say(f"none of {times} shaken runs failed, {self._progress.seconds}{hint}")
+        count = sum(self.met.values())
+        met = f"they met {several(count, 'perturbation', 'perturbations')}" if count else "they met nothing that is shaken"
+        self._progress.say(f"none of {times} shaken runs failed, {self._progress.seconds}; {met}")
         return None
 
     def _shaken(self, settings: Settings, records: bool = False) -> Ended:
