@@ -128,6 +128,9 @@ class RunsTest(unittest.TestCase):
             os.kill(os.getpid(), signal.SIGTERM)
             return 0
 
+        handled: List[int] = []
+        before = signal.signal(signal.SIGTERM, lambda number, frame: handled.append(number))
+        self.addCleanup(signal.signal, signal.SIGTERM, before)
         self.assertEqual(run(program, 20.0).status, -signal.SIGTERM)
 
     def test_a_run_has_no_standard_input_and_is_no_part_of_this_group(self) -> None:

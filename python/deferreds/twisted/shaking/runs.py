@@ -136,6 +136,7 @@ def _run(program: Callable[[Log], int], log: Log, output: int) -> NoReturn:
     status = _NOT_RUN
     try:
         os.setpgid(0, 0)
+        _drop_handlers()
         for stream in _STANDARD_STREAMS:
             os.dup2(output, stream)
         null = os.open(os.devnull, os.O_RDONLY)
@@ -153,6 +154,13 @@ def _run(program: Callable[[Log], int], log: Log, output: int) -> NoReturn:
         os.write(2, f"{type(error).__name__}: {error}\n".encode("utf-8", "backslashreplace"))
     finally:
         _exit(status & 0xFF)
+
+
+def _drop_handlers() -> None:
+    """Has signals be handled as in a program that was just started: this process's handlers are gone, and what is ignored stays so."""
+    for number in signal.valid_signals():
+        if callable(signal.getsignal(number)):
+            signal.signal(number, signal.default_int_handler if number == signal.SIGINT else signal.SIG_DFL)
 
 
 def _noting_errors(log: Log) -> Any:
