@@ -54,6 +54,7 @@ def all_scripts() -> list[Script]:
         script("chained_hand_over"),
         script("fired_lists"),
         script("loop_and_later"),
+        script("loop_of_turns"),
         script("on_timeout"),
         script("held_task"),
         script("inline_catches"),

@@ -56,6 +56,7 @@ class _Maker:
             "words": lambda form: _ref(form["of"]),
             "object": lambda form: _ref(form["of"]),
             "array": lambda form: {"type": "array", "items": self.form(form["of"])},
+            "turns": lambda form: {"anyOf": [self.form(form["of"]), _some(self.form(form["of"]))]},
             "pair": lambda form: _fixed([self.form(part) for part in form["parts"]]),
         }
 
@@ -157,6 +158,11 @@ def _first_error() -> Schema:
         "then": {"required": ["index", "sub"], "properties": {"message": {"const": ""}}},
         "else": {"properties": {"index": False, "sub": False}},
     }
+
+
+def _some(items: Schema) -> Schema:
+    """An array of one or more of these."""
+    return {"type": "array", "items": items, "minItems": 1}
 
 
 def _number(form: Form) -> Schema:

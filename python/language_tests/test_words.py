@@ -61,6 +61,7 @@ _FITTING: Dict[str, Callable[[Form], List[Json]]] = {
     "flag": lambda form: list(form["words"]),
     "object": lambda form: [_BODY, {}, "f"],
     "words": lambda form: [_SAMPLES[form["of"]]],
+    "turns": lambda form: [*_fitting(form["of"]), [_first(form["of"])], _fitting(form["of"])],
     "array": lambda form: [[], _fitting(form["of"]), [_first(form["of"])] * 3],
     "pair": lambda form: [[_first(part) for part in form["parts"]]],
 }
@@ -88,6 +89,7 @@ _MISSHAPEN: Dict[str, Callable[[Form], List[Json]]] = {
     "flag": lambda form: ["never", 1, None],
     "object": lambda form: [[], None, {"do": {}}, {"more": 1}, {"comment": 1}, {"end": ["never"]}],
     "words": lambda form: [[], {}, ["never"], "pass", [["pass"]]],
+    "turns": lambda form: [*_misshapen(form["of"]), *([_first(form["of"]), bad] for bad in _misshapen(form["of"]))],
     "array": lambda form: [{}, None, "a", *([_first(form["of"]), bad] for bad in _misshapen(form["of"]))],
     "pair": lambda form: [[], {}, [_first(part) for part in form["parts"]] * 2],
 }
@@ -117,8 +119,9 @@ def _misnamed(form: Form) -> List[Case]:
         if of == "class":
             return [Case(name, "BadClass") for name in ("Zed", "valueError", "@")]
         return [*bad, *_UNDECLARED.get(of, [])]
-    if kind == "array":
-        return [Case([_first(of), case.part], case.refusal) for case in _misnamed(of)]
+    if kind in ("array", "turns"):
+        listed = [Case([_first(of), case.part], case.refusal) for case in _misnamed(of)]
+        return listed if kind == "array" else [*_misnamed(of), *listed]
     if kind == "object":
         return _misnamed_bodies()
     return []
@@ -234,6 +237,15 @@ class OfTheWords(unittest.TestCase):
         self._expect([
             (_script(frame, [word.word, *map(_first, word.arguments)], word.since - 1), "BadShape")
             for place, word in later
+            for frame in _FRAMES[place]
+        ])
+
+    def test_no_earlier_version_has_bodies_of_turns(self) -> None:
+        loops = [(place, word, form) for place in _FRAMES for word in LANGUAGE.at(place) for form in word.arguments if form["type"] == "turns"]
+        self.assertTrue(loops)
+        self._expect([
+            (_script(frame, [word.word, *map(_first, word.arguments[:-1]), [{}]], form["since"] - 1), "BadShape")
+            for place, word, form in loops
             for frame in _FRAMES[place]
         ])
 

@@ -56,6 +56,31 @@ def in_a_callback() -> None:
     deferred.callback(1)
 
 
+def a_value_in_a_callback() -> None:
+    """It is what a callback uses that was added before."""
+    queue: defer.DeferredQueue[Any] = defer.DeferredQueue()
+    deferred: defer.Deferred[int] = defer.Deferred()
+    deferred.addCallback(lambda value: queue.put(Failure(ValueError("no"))))
+    defer.succeed(1)
+    deferred.callback(1)
+
+
+def a_value_in_an_inline_body() -> None:
+    """It is what an inline body uses that began before, and awaits twice."""
+    waits: List[defer.Deferred[int]] = [defer.Deferred(), defer.Deferred()]
+
+    @defer.inlineCallbacks
+    def body() -> Any:
+        for one in waits:
+            yield one
+        defer.DeferredQueue().put(Failure(ValueError("no")))
+
+    body()
+    waits[0].callback(1)
+    defer.succeed(0)
+    waits[1].callback(2)
+
+
 def in_an_inline_body() -> None:
     """It lies in an inline body that began before, and awaits twice."""
     waits: List[defer.Deferred[int]] = [defer.Deferred(), defer.Deferred()]
@@ -94,6 +119,8 @@ PROGRAMS: Tuple[Tuple[Callable[[], None], int, int, str], ...] = (
     (in_the_second_event, 1, 2, "a Failure is a value"),
     (after_events, 5, 6, _BY_HAND),
     (in_a_callback, 4, 5, _BY_HAND),
+    (a_value_in_a_callback, 4, 5, "a Failure is a value"),
+    (a_value_in_an_inline_body, 6, 7, "a Failure is a value"),
     (in_an_inline_body, 6, 7, _BY_HAND),
     (in_a_coroutine_that_is_caught, 4, 5, _BY_HAND),
 )
@@ -138,28 +165,17 @@ class Beginnings(unittest.TestCase):
 
     def test_many_problems_are_passed_by_in_few_steps(self) -> None:
         def program() -> None:
-            clock = task.Clock()
-            for count in range(30, 0, -1):
-                self.start(clock, count)
-            for _ in range(31):
-                clock.advance(1)
+            queue: defer.DeferredQueue[Any] = defer.DeferredQueue()
+            waits: List[defer.Deferred[None]] = [defer.Deferred() for _ in range(30)]
+            for wait in waits:
+                wait.addCallback(lambda _: queue.put(Failure(ValueError("no"))))
+            for wait in reversed(waits):
+                wait.callback(None)
 
         said = recorded(program)
         self.assertLess(len(said.problems), 25)
+        self.assertTrue(said.is_cut)
         self.assertEqual(run(said.text.encode()).output, said.output)
-
-    def start(self, clock: task.Clock, turns: int) -> None:
-        """Starts a loop whose turn of this number, and each later one, does something else."""
-        ran: List[int] = []
-
-        def turn() -> None:
-            ran.append(0)
-            if len(ran) > turns:
-                defer.succeed(None)
-
-        loop = task.LoopingCall(turn)
-        loop.clock = clock  # type: ignore[assignment]
-        loop.start(1)
 
 
 class _Reactor:

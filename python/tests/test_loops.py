@@ -1,14 +1,19 @@
-"""Loops and first Cooperators that no script has as such: they are recorded as what they are made of, without being asked for."""
+"""Loops whose turns differ: each has a body of its own. Loops and first Cooperators that no script has as such are recorded as what they
+are made of, without being asked for."""
 
 from __future__ import annotations
 
 import importlib.util
+import itertools
 import json
 import unittest
+import unittest.mock
 from typing import Any, Dict, Iterator, List
 
 from twisted.internet import defer, task
+from twisted.python.failure import Failure
 
+from deferreds.twisted.recording import saying
 from deferreds.twisted.running import run
 from deferreds.twisted.telling import KINDS
 
@@ -18,13 +23,14 @@ from .test_declared import Case
 from .test_real_reactor import Recording, ours
 from .test_recording import recorded
 
-_DIFFER = "a turn did something else than the first one"
 _AGAIN = "a loop that is started again while a turn of it waits or goes on"
 _ACTS = "a task acts in the step in which it ends"
 
-#: by the words of `loops_that_differ`, why a script can't say its loops as such
+#: the words of `loops_that_differ` whose turns have bodies of their own
+DIFFER = ("counts", "stops", "once", "raises", "waits", "many", "beside")
+#: by the other words, why a script can't say its loops as such
 REASONS = {
-    **dict.fromkeys(("counts", "stops", "once", "raises", "waits", "by_hand", "many", "beside"), _DIFFER),
+    "by_hand": "Twisted does what docs/TWISTED.md says of loop-fired-by-hand",
     "resets": "LoopingCall.reset",
     "again": _AGAIN,
 }
@@ -33,6 +39,15 @@ REASONS = {
 def said_of_loops(reason: str) -> str:
     """The line that says so."""
     return f"loops are recorded as delayed calls: {reason}\n"
+
+
+def turns_in(value: Any) -> List[int]:
+    """How many bodies each loop has in a part of a script, if its turns have bodies of their own."""
+    if not isinstance(value, (list, dict)):
+        return []
+    parts = value.values() if isinstance(value, dict) else value
+    own = [len(value[-1])] if isinstance(value, list) and value[:1] == ["loop"] and isinstance(value[-1], list) else []
+    return own + [count for part in parts for count in turns_in(part)]
 
 
 def words_of(said: str) -> List[str]:
@@ -51,29 +66,42 @@ class OfAProgram(RecordingCase):
         self.assert_goes_together("run")
         words = [event[0] for event in self.events("run")]
         self.assertEqual((words.count("loop"), '"maybe"' in self.text("run.json")), (1, True))
+
+    def assert_as_turns(self, ended: Ended, case: str) -> None:
+        """All loops are loops, and in one of them each turn has its own body."""
+        self.assertEqual(ended.status, 0, ended.said)
+        self.assertNotIn("loops are recorded", ended.said)
+        self.assertIn("./deferreds prints the same, line for line", ended.said)
+        self.assert_goes_together("run")
+        self.assertGreater(len(turns_in(self.events("run"))), 0)
         if case == "beside":
             self.assertIn(f"the first Cooperator is recorded as events: {_ACTS}\n", ended.said)
-            self.assertNotIn("cooperate", words)
+            self.assertNotIn("cooperate", [event[0] for event in self.events("run")])
 
     def test_virtual_time(self) -> None:
-        for case in REASONS:
+        for case in (*REASONS, *DIFFER):
             with self.subTest(case):
-                self.assert_as_calls(self.record("-f", "--virtual", "-o", "run", "loops_that_differ.py", case), case)
+                ended = self.record("-f", "--virtual", "-o", "run", "loops_that_differ.py", case)
+                (self.assert_as_calls if case in REASONS else self.assert_as_turns)(ended, case)
 
     def test_a_real_reactor(self) -> None:
-        for case in REASONS:
+        for case in (*REASONS, *DIFFER):
             with self.subTest(case):
                 recording = Recording(f"loops_that_differ {case}")
                 self.assertEqual(recording.status, 0, recording.said)
-                self.assertIn("loops are recorded as delayed calls: ", recording.said)
+                if case in REASONS:
+                    self.assertIn(said_of_loops(REASONS[case]), recording.said)
+                else:
+                    self.assertGreater(len(turns_in(recording.events)), 0)
                 self.assertEqual(ours().answer(recording.script).output, recording.journal)
                 self.assertEqual([line for line in recording.lines if line.split(" ")[0] in ("step", "tick", "hold")], [])
 
     def test_tests(self) -> None:
         self.copied("loops_that_differ.py", "differ.py")
-        for case in REASONS:
+        for case in (*REASONS, *DIFFER):
             with self.subTest(case):
-                self.assert_as_calls(self.record("-f", "-o", "run", "--test", f"differ.OnAClock.test_{case}"), case)
+                ended = self.record("-f", "-o", "run", "--test", f"differ.OnAClock.test_{case}")
+                (self.assert_as_calls if case in REASONS else self.assert_as_turns)(ended, case)
 
     def test_a_loop_that_goes_on_for_ever(self) -> None:
         recording = Recording("loop_that_goes_on")
@@ -86,7 +114,7 @@ class OfAProgram(RecordingCase):
     def test_a_loop_that_asks_a_thread(self) -> None:
         recording = Recording("loop_that_asks_a_thread")
         self.assertEqual(recording.status, 0, recording.said)
-        self.assertIn(said_of_loops(_DIFFER), recording.said)
+        self.assertGreater(len(turns_in(recording.events)), 0)
         self.assertEqual(ours().answer(recording.script).output, recording.journal)
         self.assertIn('note "answer 16"', recording.lines)
 
@@ -116,24 +144,68 @@ class OnAClock(Case):
         clock.pump([module.PART / 2] * 70)
 
     def test_they_are_recorded_as_if_nobody_knew_loops(self) -> None:
-        for case in ("stops", "raises", "waits"):
+        for case in ("resets", "again"):
             with self.subTest(case):
                 said = recorded(lambda case=case: self.program(case))  # type: ignore[misc]
                 plain = recorded(lambda case=case: self.program(case), KINDS - {"loop"})  # type: ignore[misc]
                 self.assertEqual((said.problems, plain.problems), ([], []))
                 self.assertEqual(_unnamed(said.text), _unnamed(plain.text))
 
-    def test_only_those_whose_turns_differ(self) -> None:
+    def test_each_turn_has_its_body_and_those_at_the_end_that_are_the_same_have_one(self) -> None:
         def program() -> None:
             clock = task.Clock()
-            for values in ([1] * 9, [1, 2] * 9):
+            for values in ([1] * 9, [1, 2] * 9, [1, 2, 3, 3, 3]):
                 loop = task.LoopingCall(iter(values).__next__)
                 loop.clock = clock  # type: ignore[assignment]
                 loop.start(1)
+            clock.pump([1] * 4)
+
+        one, two, three, four = ({"end": ["return", value]} for value in (1, 2, 3, 4))
+        events = json.loads(self.said_of(program).text)["events"]
+        self.assertEqual([event[-1] for event in events if event[0] == "loop"], [one, [one, two, one, two, one], [one, two, three]])
+
+    def test_the_least_version_that_says_it(self) -> None:
+        def program(values: List[int]) -> None:
+            clock = task.Clock()
+            loop = task.LoopingCall(iter(values).__next__)
+            loop.clock = clock  # type: ignore[assignment]
+            loop.start(1)
+            clock.advance(1)
+
+        versions = [json.loads(self.said_of(lambda values=values: program(values)).text)["version"] for values in ([1, 1], [1, 2])]
+        self.assertEqual(versions, [1, 3])
+
+    def test_a_turn_that_no_script_can_say_ends_the_script_before_it(self) -> None:
+        def program() -> None:
+            clock = task.Clock()
+            queue: defer.DeferredQueue[Any] = defer.DeferredQueue()
+            values = iter([1, 2, Failure(ValueError("no")), 3])
+            loop = task.LoopingCall(lambda: queue.put(next(values)))
+            loop.clock = clock  # type: ignore[assignment]
+            loop.start(1)
             clock.pump([1] * 3)
 
-        words = words_of(self.said_of(program).text)
-        self.assertEqual((words.count("loop"), words.count("maybe")), (1, 1))
+        said = recorded(program)
+        self.assertEqual([problem.reason for problem in said.problems], ["a Failure is a value"])
+        self.assertEqual(words_of(said.text), ["loop", "advance"])
+        self.assertEqual(turns_in(json.loads(said.text)), [2])
+        self.assertEqual(run(said.text.encode()).output, said.output)
+
+    def test_a_script_that_would_be_too_large_has_as_many_turns_as_fit(self) -> None:
+        def program() -> None:
+            clock = task.Clock()
+            values = itertools.count()
+            loop = task.LoopingCall(values.__next__)
+            loop.clock = clock  # type: ignore[assignment]
+            loop.start(1)
+            clock.pump([1] * 400)
+
+        with unittest.mock.patch.object(saying, "_MOST_BYTES", 12_000):
+            said = recorded(program)
+        self.assertEqual([problem.reason for problem in said.problems], ["the script is longer than one may be"])
+        self.assertEqual(run(said.text.encode()).output, said.output)
+        self.assertLess(len(said.text), 12_000)
+        self.assertGreater(len(said.text), 10_000)
 
     def test_a_loop_whose_turns_use_different_loops(self) -> None:
         def program() -> None:
@@ -148,8 +220,8 @@ class OnAClock(Case):
             clock.pump([1] * 4)
 
         said = self.said_of(program)
-        self.assertEqual([plainly.why for plainly in said.plainly], [_DIFFER])
-        self.assertEqual(words_of(said.text).count("loop"), 2)
+        self.assertEqual(said.plainly, [])
+        self.assertEqual((words_of(said.text).count("loop"), turns_in(json.loads(said.text))), (3, [3]))
 
     def test_a_turn_at_a_time_that_floats_have_changed(self) -> None:
         def program() -> None:
@@ -163,7 +235,7 @@ class OnAClock(Case):
         self.assertEqual([plainly.what for plainly in said.plainly], ["loops"])
 
     def test_random_programs(self) -> None:
-        plain = 0
+        plain = turns = 0
         for seed in range(160):
             with self.subTest(seed):
                 said = recorded(RandomLoops(seed, seed % 2 == 1).run)
@@ -174,7 +246,9 @@ class OnAClock(Case):
                     first = next(place for place, (one, two) in enumerate(lines) if one != two)
                     self.assertTrue(any(place <= first for place, _ in said.quirks))
                 plain += bool(said.plainly)
-        self.assertGreater(plain, 80)
+                turns += bool(turns_in(json.loads(said.text)))
+        self.assertGreater(plain, 40)
+        self.assertGreater(turns, 80)
 
 
 def _unnamed(text: str) -> List[Any]:

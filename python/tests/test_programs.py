@@ -204,9 +204,11 @@ class Programs(unittest.TestCase):
             with self.subTest(program=name):
                 self.assert_right(record(name, KINDS - {kind}).said)
 
-    def test_where_turns_differ_it_is_said_what_the_loop_is_recorded_as(self) -> None:
-        (plainly,) = record("loop_of_other_values").said.plainly
-        self.assertEqual(plainly.text, "loops are recorded as delayed calls: a turn did something else than the first one")
+    def test_where_turns_differ_each_has_its_body(self) -> None:
+        said = record("loop_of_other_values").said
+        assert said.script is not None
+        self.assertEqual((said.plainly, said.script["version"], type(said.script["events"][0][-1])), ([], 3, list))
+        self.assert_right(said)
 
     def test_the_value_of_a_turn_is_told(self) -> None:
         said = record("loop_of_values").said

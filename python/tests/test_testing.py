@@ -35,6 +35,7 @@ _LOOPS = """
             loop.clock = clock
             loop.start(0.1)
             clock.pump([0.1] * 5)
+            loop.reset()
             defer.Deferred()
 
         def test_on_the_reactor(self):
@@ -130,6 +131,7 @@ _PLAIN = """
     def test_sets_a_result_by_hand():
         d = Deferred()
         d.result = 5
+        Deferred().callback(1)
 """
 
 _CASES = """
@@ -293,7 +295,7 @@ class TestingTest(unittest.TestCase):
         return Ran(ran.returncode, ran.stdout)
 
     def recordings(self) -> List[str]:
-        """What the recordings are called."""
+        return sorted(path.name[: -len(".html")] for path in self.out.glob("*.html"))
         return sorted(path.name[: -len(".journal")] for path in self.out.glob("*.journal"))
 
     def assert_scripts_say_the_journals(self) -> int:
@@ -347,12 +349,16 @@ class PytestTest(TestingTest):
                 "test_teardown_fails": "failed",
                 "test_sets_a_result_by_hand": f"left behind: nobody fired #0·test_sets_a_result_{line_of(_PLAIN, 'd.result = 5') - 1}; "
                 "a script can't say this: the result of a Deferred is set by hand, "
-                f"at {self.folder}/test_plain.py:{line_of(_PLAIN, 'd.result = 5')} in test_sets_a_result_by_hand",
+                f"at {self.folder}/test_plain.py:{line_of(_PLAIN, 'd.result = 5')} in test_sets_a_result_by_hand; "
+                "the script is of the first 1 of 3 events",
             },
             ran.output,
         )
         self.assertEqual(self.recordings(), sorted(f"test_plain.{name}" for name in told))
-        self.assertEqual(self.assert_scripts_say_the_journals(), len(told) - 1)
+        self.assertEqual(self.assert_scripts_say_the_journals(), len(told))
+        whole = (self.out / "test_plain.test_sets_a_result_by_hand.whole.journal").read_text(encoding="utf-8")
+        cut = (self.out / "test_plain.test_sets_a_result_by_hand.journal").read_text(encoding="utf-8")
+        self.assertGreater(len(whole), len(cut))
         places = read_places((self.out / f"test_plain.test_fails{PLACES}").read_text(encoding="utf-8"))
         made_at = places.of_event(0)
         line = line_of(_PLAIN, "d.addCallback(lambda x") - 1
@@ -383,6 +389,7 @@ class PytestTest(TestingTest):
         ran = self.pytest("--deferreds-record", self.out, "test_loops.py")
         self.assertEqual((ran.status, len(ran.told)), (0, 2), ran.output)
         self.assertNotIn("a script can't say this", ran.output)
+        self.assertEqual(ran.output.count("; loops are recorded as delayed calls: LoopingCall.reset; "), 1)
         self.assertEqual(self.assert_scripts_say_the_journals(), 2)
 
     def test_the_next_run_removes_what_this_one_has_left(self) -> None:
@@ -469,6 +476,7 @@ class TrialTest(TestingTest):
         ran = self.trial("--deferreds-record", self.out, "test_loops")
         self.assertEqual((ran.status, len(ran.told)), (0, 2), ran.output)
         self.assertNotIn("a script can't say this", ran.output)
+        self.assertEqual(ran.output.count("; loops are recorded as delayed calls: LoopingCall.reset; "), 1)
         self.assertEqual(self.assert_scripts_say_the_journals(), 2)
 
     def test_a_passing_run_that_leaves_nothing_ends_with_status_0(self) -> None:

@@ -2,7 +2,7 @@
 use Rattle.std.proofs.Common.{◌≡◌, ℕ, false, [], Option, None, Some, refl}
 use Rattle.dv_definition.specs.Cases.{TokensAreWaitedFor, FullQueuesRefuse, FiredListsStay, TurnsFollow, EndedTasksStay}
 use Rattle.dv_definition.specs.Cases.{NameErrorsAreThrown, ErrbacksAreForFailures, ManyJobsAreRefused}
-use Rattle.dv_definition.specs.Cases.{FailuresOfCallsAreTold, StoppedOnesTakeNone, UnmetRunsEnd}
+use Rattle.dv_definition.specs.Cases.{FailuresOfCallsAreTold, StoppedOnesTakeNone, TurnsTakeBodies, UnmetRunsEnd}
 use Rattle.dv_definition.specs.Rule.{Finds, Fires, run}
 use Rattle.dv_definition.specs.Words.{finished, if_unfired}
 use Rattle.dv_objects.specs.declared.performed.Performed.TheVariants.{Done}
@@ -29,6 +29,9 @@ fired_lists_stay child input w h =
 
 pub turns_follow : TurnsFollow
 turns_follow l w x is runs = rw (is, runs) refl
+
+pub turns_take_bodies : TurnsTakeBodies
+turns_take_bodies l w x is = rw is refl
 
 pub ended_tasks_stay : EndedTasksStay
 ended_tasks_stay t e w over = rw over refl

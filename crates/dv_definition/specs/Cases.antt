@@ -2,15 +2,16 @@
 use Rattle.std.specs.Prelude.{◌≡◌, ℕ, true, false, List, [], ◌∷◌, ◌++◌, length, Option, None, Some, slice_get}
 use Rattle.dv_clock.specs.declared.due.Due.TheVariants as what
 use Rattle.dv_definition.specs.Definition.{add, cancel_reached, acquire, put_in, deferred_of, run_with, report}
-use Rattle.dv_definition.specs.Definition.{add_timeout, end_turn, step_ended, await, thread, settle_by, carry_out, act}
+use Rattle.dv_definition.specs.Definition.{add_timeout, take_turn, end_turn, step_ended, await, thread, settle_by}
+use Rattle.dv_definition.specs.Definition.{carry_out, act}
 use Rattle.dv_definition.specs.Definition.{end_task, joined_in, perform_rest, run_next}
 use Rattle.dv_definition.specs.Rule.{Fires, run, ◌after_which◌}
 use Rattle.dv_definition.specs.Scripts.{judge}
-use Rattle.dv_definition.specs.Words.{goes_through, is_over}
+use Rattle.dv_definition.specs.Words.{◌and◌, goes_through, is_over, makes_deferred, performs}
 use Rattle.dv_frames.specs.Turn.{rest_of}
 use Rattle.dv_frames.specs.declared.frame.Frame.TheVariants as frame
 use Rattle.dv_frames.specs.declared.frame.Inlining.TheVariants.{Goes}
-use Rattle.dv_frames.specs.declared.frame.Purpose.TheVariants.{Named}
+use Rattle.dv_frames.specs.declared.frame.Purpose.TheVariants.{Named, Turning}
 use Rattle.dv_inline.specs.Position.{Position, answered}
 use Rattle.dv_journal.specs.declared.entry.Entry.TheVariants as entry
 use Rattle.dv_objects.specs.Cooperator.{Cooperator}
@@ -101,6 +102,12 @@ abbrev pub TurnsFollow : Type 0
 TurnsFollow =
     (l : ℕ) (w : World) (x : LoopingCall) → slice_get w.objects.loops l ≡ Some x → x.running ≡ true
     → run (end_turn l) w ≡ ([], Done, world.schedule_turn l w)
+
+-- a turn that is due performs the body that the loop has for it, and then the loop has that of the turn after it
+abbrev pub TurnsTakeBodies : Type 0
+TurnsTakeBodies =
+    (l : ℕ) (w : World) (x : LoopingCall) → slice_get w.objects.loops l ≡ Some x
+    → run (take_turn l) w ≡ (performs None x.body Null and makes_deferred (Turning l), Done, world.begin_turn l w)
 
 -- a task that has ended waits for nothing
 abbrev pub EndedTasksStay : Type 0

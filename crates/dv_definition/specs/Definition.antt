@@ -18,7 +18,8 @@ use Rattle.dv_definition.specs.Rule.{Rule, Ends, By, If, Finds, Asks, Fires, Unp
 use Rattle.dv_definition.specs.Rule.{◌after_which◌}
 use Rattle.dv_definition.specs.Steps.{Step, Make, Name, Append, FireThenSwallow, Pause, Note, TellTurn, NewLock}
 use Rattle.dv_definition.specs.Steps.{NewSemaphore, Ask, Release, Forget, NewQueue, Withdraw, NewList, StartTimer}
-use Rattle.dv_definition.specs.Steps.{EndTimer, CallLater, NewLoop, ScheduleTurn, StopLoop, EndLoop, NewTask, NewTaskIn}
+use Rattle.dv_definition.specs.Steps.{EndTimer, CallLater, NewLoop, BeginTurn, ScheduleTurn, StopLoop, EndLoop, NewTask}
+use Rattle.dv_definition.specs.Steps.{NewTaskIn}
 use Rattle.dv_definition.specs.Steps.{AwaitTask, SetUnitsIn, Halt}
 use Rattle.dv_definition.specs.Steps.{PauseTask, ResumeTask, HoldTask, SetUnits, KeepTick, BeginTick, EndTick}
 use Rattle.dv_definition.specs.Steps.{AddInline, BeginBody, BeginAwait, Submit, DeliverLater, Put, PutDeferred, TakeDue}
@@ -342,27 +343,34 @@ next_turn_at x c = let start = min x.start c.time in start + ((c.time - start) /
 abbrev pub turn : ℕ → Body → Rule
 turn l body = as_deferred (Turning l) body
 
--- takes the first turn of a loop at once
+-- takes the first turn of a loop at once. `BeginTurn` has the turn after it perform the next of its bodies, where one
+-- is left; else that performs the same body again
 abbrev pub first_turn : List ℕ → ℕ → Body → Rule
-first_turn name l body = TellTurn name next turn l body
+first_turn name l body =
+    TellTurn name next
+    BeginTurn l next
+    turn l body
 
 -- makes a loop whose Deferred is d; its first turn is taken at once, or scheduled
-abbrev pub begin_loop : List ℕ → ℕ → ℕ → Bool → Body → Rule
-begin_loop name d interval at_once body =
+abbrev pub begin_loop : List ℕ → ℕ → ℕ → Bool → Body → List Body → Rule
+begin_loop name d interval at_once body bodies =
     next_loop λ l.
-    NewLoop name d interval body next
+    NewLoop name d interval body bodies next
     If at_once (first_turn name l body) (ScheduleTurn l next finished)
 
--- makes a loop with its Deferred (Twisted: `LoopingCall.start`)
-abbrev pub loop : List ℕ → List ℕ → ℕ → Bool → Body → Rule
-loop name of interval at_once body =
+-- makes a loop with its Deferred (Twisted: `LoopingCall.start`). Its first turn performs the body, those after it
+-- perform the bodies that are listed, one each, and the last of them stays
+abbrev pub loop : List ℕ → List ℕ → ℕ → Bool → Body → List Body → Rule
+loop name of interval at_once body bodies =
     next_deferred λ d.
     Make (Some of) None next
-    begin_loop name d interval at_once body
+    begin_loop name d interval at_once body bodies
 
 -- takes the turn of a loop that is due
 abbrev pub take_turn : ℕ → Rule
-take_turn l = the_loop l λ x. turn l x.body
+take_turn l =
+    the_loop l λ x.
+    BeginTurn l next turn l x.body
 
 -- a turn has ended: schedules the next if the loop runs; else fires its Deferred with its name (Twisted: `LoopingCall`,
 -- but `loop-fired-by-hand`)
@@ -444,22 +452,24 @@ when_done name t =
     AwaitTask t d next
     notify d t
 
--- raises TaskDone, TaskStopped, TaskFailed or SchedulerStopped if a task has ended. Else pauses it (Twisted: `CooperativeTask.pause`)
+-- raises TaskDone, TaskStopped, TaskFailed or SchedulerStopped if a task has ended. Else pauses it (Twisted:
+-- `CooperativeTask.pause`)
 abbrev pub pause_task : ℕ → Rule
 pause_task t =
     the_task t λ x.
     Finds x.end (PauseTask t next KeepTick x.of next finished) λ end.
     raise (how_ended end)
 
--- raises TaskDone, TaskStopped, TaskFailed or SchedulerStopped if a task has ended. Else stops it (Twisted: `CooperativeTask.stop`)
+-- raises TaskDone, TaskStopped, TaskFailed or SchedulerStopped if a task has ended. Else stops it (Twisted:
+-- `CooperativeTask.stop`)
 abbrev pub stop_task : ℕ → Rule
 stop_task t =
     the_task t λ x.
     Finds x.end (end_task t Stopped) λ end.
     raise (how_ended end)
 
--- raises NotPaused if a task isn't paused. Else resumes it; in a Cooperator that was stopped it ends once it isn't paused
--- any more (Twisted: `CooperativeTask.resume`)
+-- raises NotPaused if a task isn't paused. Else resumes it; in a Cooperator that was stopped it ends once it isn't
+-- paused any more (Twisted: `CooperativeTask.resume`)
 abbrev pub resume_task : ℕ → Rule
 resume_task t =
     the_task t λ x.
@@ -714,7 +724,7 @@ carry_out itself (Action-F.ResetCall name delay) =
     on_call name λ number. Asks (ResetCall number delay_from.Now delay) Ends
 carry_out itself (Action-F.DelayCall name delay) =
     on_call name λ number. Asks (ResetCall number delay_from.Due delay) Ends
-carry_out itself (Action-F.Loop name of interval at_once body) = loop name of interval at_once body
+carry_out itself (Action-F.Loop name of interval at_once body bodies) = loop name of interval at_once body bodies
 carry_out itself (Action-F.StopLoop name) = on_loop name stop_loop
 carry_out itself (Action-F.Units units) = SetUnits units next finished
 carry_out itself (Action-F.Cooperate name bodies) = NewTask name bodies next KeepTick 0 next finished

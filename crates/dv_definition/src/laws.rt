@@ -6,6 +6,7 @@ ghost use Rattle.dv_definition.specs.Cases.{FailuresAreKept, FailuresOfCallsAreT
 ghost use Rattle.dv_definition.specs.Cases.{FiredListsStay, FiringsEndTimers, FullQueuesRefuse};
 ghost use Rattle.dv_definition.specs.Cases.{ManyJobsAreRefused, NameErrorsAreThrown, PairsAreUsed};
 ghost use Rattle.dv_definition.specs.Cases.{ReceiversComeFirst, TokensAreWaitedFor, TurnsFollow};
+ghost use Rattle.dv_definition.specs.Cases.{TurnsTakeBodies};
 ghost use Rattle.dv_definition.specs.Cases.{StoppedOnesTakeNone, UnmetRunsEnd};
 ghost use Rattle.dv_definition.specs.Conditions.{CallsComeInTurn, CancelsReach};
 ghost use Rattle.dv_definition.specs.Conditions.{DeferredsWaitWhenTheyHaveTo, EndsLeave};
@@ -50,6 +51,7 @@ pub fn rules_decide_their_cases()
     ensures lists { FiredListsStay }
     ensures timeouts { FiringsEndTimers }
     ensures loops { TurnsFollow }
+    ensures turns { TurnsTakeBodies }
     ensures tasks { EndedTasksStay }
     ensures cooperators { StoppedOnesTakeNone }
     ensures inline { NameErrorsAreThrown }

@@ -1,6 +1,8 @@
 -- What the parts of what a place asks for are asked to be, but for the arguments of words.
-use Rattle.std.specs.Prelude.{ℕ, nat_eq, nat_lt, if◌then◌else◌, List, [], ◌∷◌, bytes_eq, codes}
-use Rattle.serde_json.specs.Data.{Data, null, boolean, number, string, array, object}
+use Rattle.std.specs.Prelude.{ℕ, Bool, true, false, nat_eq, nat_lt, if◌then◌else◌, List, [], ◌∷◌, bytes_eq, codes}
+use Rattle.std.specs.Option.{option_map_or}
+use Rattle.serde_json.specs.Data.{Data, null, boolean, number, string, array, object, Items, no_items, item}
+use Rattle.serde_json.specs.Find.{as_array}
 use Rattle.dv_forms.specs.declared.want.Object.TheVariants as named
 use Rattle.dv_forms.specs.declared.want.Leaf.TheVariants as leaf
 use Rattle.dv_forms.specs.declared.want.CallKind.TheVariants as call
@@ -9,13 +11,14 @@ use Rattle.dv_forms.specs.declared.want.PairKind.TheVariants as pair
 use Rattle.dv_forms.specs.declared.want.Keyed.{Keyed}
 use Rattle.dv_forms.specs.declared.want.Keyed.TheVariants as keyed
 use Rattle.dv_forms.specs.declared.want.Item.{Item}
-use Rattle.dv_forms.specs.declared.want.Item.TheVariants as item
+use Rattle.dv_forms.specs.declared.want.Item.TheVariants as item_of
 use Rattle.dv_forms.specs.declared.want.Want.{Want}
 use Rattle.dv_forms.specs.declared.want.Want.TheVariants as want
 use Rattle.dv_clock.specs.declared.limits.TheConstants.{MOST_DELAY}
 use Rattle.dv_script.specs.declared.limits.TheConstants.{MOST_PLACE, MOST_UNITS, MOST_WORKERS}
 use Rattle.dv_forms.specs.Limits.{most_limit}
 use Rattle.dv_forms.specs.declared.versions.TheConstants.{BODIES_SINCE, COOPERATORS_SINCE, FIRST_VERSION, LAST_VERSION}
+use Rattle.dv_forms.specs.declared.versions.TheConstants.{TURNS_SINCE}
 use Rattle.dv_forms.specs.declared.failure.TheConstants.{MOST_INDEX}
 
 -- the name of a Deferred that is looked up
@@ -48,38 +51,79 @@ a_body = want.Keyed (keyed.Body FIRST_VERSION)
 
 -- what each item of an array is
 abbrev pub item_want : Item → Want
-item_want item.Value = want.Value
-item_want item.Event = want.Call call.Event
-item_want item.Action = want.Call call.Action
-item_want item.Statement = want.Call call.Statement
-item_want item.Body = a_body
-item_want item.Caller = want.Array item.Body
-item_want item.Deferred = a_deferred
-item_want item.Class = a_class
-item_want item.ListFlag = want.Leaf leaf.ListFlag
-item_want item.GatherFlag = want.Leaf leaf.GatherFlag
-item_want item.Declaration = want.Pair pair.Declaration
-item_want item.Pool = want.Pair pair.Pool
-item_want item.Place = want.Leaf (leaf.Number 0 MOST_PLACE)
-item_want item.NamedBody = want.Pair pair.Body
-item_want item.NamedCooperator = want.Pair pair.Cooperator
+item_want item_of.Value = want.Value
+item_want item_of.Event = want.Call call.Event
+item_want item_of.Action = want.Call call.Action
+item_want item_of.Statement = want.Call call.Statement
+item_want item_of.Body = a_body
+item_want item_of.Caller = want.Array item_of.Body
+item_want item_of.Deferred = a_deferred
+item_want item_of.Class = a_class
+item_want item_of.ListFlag = want.Leaf leaf.ListFlag
+item_want item_of.GatherFlag = want.Leaf leaf.GatherFlag
+item_want item_of.Declaration = want.Pair pair.Declaration
+item_want item_of.Pool = want.Pair pair.Pool
+item_want item_of.Place = want.Leaf (leaf.Number 0 MOST_PLACE)
+item_want item_of.NamedBody = want.Pair pair.Body
+item_want item_of.NamedCooperator = want.Pair pair.Cooperator
+item_want item_of.Turn = want.Keyed (keyed.Body TURNS_SINCE)
+
+-- whether there is one or more
+abbrev pub are_some : Items → Bool
+are_some no_items = false
+are_some (item d ds) = true
+
+-- whether this is an array of one item or more
+abbrev pub has_items : Data → Bool
+has_items d = option_map_or are_some (as_array d) false
+
+-- what the place of an array asks for where this stands: where the turns of a loop may have bodies of their own, one
+-- body for all is no array
+abbrev pub array_or_body : Item → Data → Want
+array_or_body item_of.Value d = want.Array item_of.Value
+array_or_body item_of.Event d = want.Array item_of.Event
+array_or_body item_of.Action d = want.Array item_of.Action
+array_or_body item_of.Statement d = want.Array item_of.Statement
+array_or_body item_of.Body d = want.Array item_of.Body
+array_or_body item_of.Caller d = want.Array item_of.Caller
+array_or_body item_of.Deferred d = want.Array item_of.Deferred
+array_or_body item_of.Class d = want.Array item_of.Class
+array_or_body item_of.ListFlag d = want.Array item_of.ListFlag
+array_or_body item_of.GatherFlag d = want.Array item_of.GatherFlag
+array_or_body item_of.Declaration d = want.Array item_of.Declaration
+array_or_body item_of.Pool d = want.Array item_of.Pool
+array_or_body item_of.Place d = want.Array item_of.Place
+array_or_body item_of.NamedBody d = want.Array item_of.NamedBody
+array_or_body item_of.NamedCooperator d = want.Array item_of.NamedCooperator
+array_or_body item_of.Turn d = if has_items d then want.Array item_of.Turn else a_body
+
+-- what an argument has to be where this stands
+abbrev pub want_for : Want → Data → Want
+want_for (want.Leaf l) d = want.Leaf l
+want_for want.Value d = want.Value
+want_for (want.Call c) d = want.Call c
+want_for (want.Pair p) d = want.Pair p
+want_for (want.Keyed k) d = want.Keyed k
+want_for (want.Array i) d = array_or_body i d
+want_for (want.Word c) d = want.Word c
+want_for (want.Other k) d = want.Other k
 
 -- what the value of a script's key is
 abbrev pub script_want : ℕ → List ℕ → Want
 script_want version key =
     if bytes_eq key (codes "version") then want.Leaf (leaf.Number 1 LAST_VERSION) else
-    if bytes_eq key (codes "events") then want.Array item.Event else
+    if bytes_eq key (codes "events") then want.Array item_of.Event else
     if bytes_eq key (codes "limit") then want.Leaf (leaf.Number 0 (most_limit version)) else
-    if bytes_eq key (codes "classes") then want.Array item.Declaration else
+    if bytes_eq key (codes "classes") then want.Array item_of.Declaration else
     if bytes_eq key (codes "cooperator") then want.Keyed keyed.Cooperator else
-    if bytes_eq key (codes "callers") then want.Array item.Caller else
+    if bytes_eq key (codes "callers") then want.Array item_of.Caller else
     if bytes_eq key (codes "pools")
-    then (if nat_eq version 1 then want.Other (keyed.Script version) else want.Array item.Pool) else
+    then (if nat_eq version 1 then want.Other (keyed.Script version) else want.Array item_of.Pool) else
     if bytes_eq key (codes "bodies")
-    then (if nat_lt version BODIES_SINCE then want.Other (keyed.Script version) else want.Array item.NamedBody) else
+    then (if nat_lt version BODIES_SINCE then want.Other (keyed.Script version) else want.Array item_of.NamedBody) else
     if bytes_eq key (codes "cooperators")
     then (if nat_lt version COOPERATORS_SINCE then want.Other (keyed.Script version)
-    else want.Array item.NamedCooperator) else
+    else want.Array item_of.NamedCooperator) else
     if bytes_eq key (codes "comment") then a_comment else want.Other (keyed.Script version)
 
 -- what the value of a cooperator's key is
@@ -92,7 +136,7 @@ cooperator_want key =
 -- what the value of a body's key is
 abbrev pub body_want : ℕ → List ℕ → Want
 body_want since key =
-    if bytes_eq key (codes "do") then want.Array item.Action else
+    if bytes_eq key (codes "do") then want.Array item_of.Action else
     if bytes_eq key (codes "end") then want.Call call.End else
     if bytes_eq key (codes "comment") then a_comment else want.Other (keyed.Body since)
 
@@ -141,23 +185,23 @@ pair_wants pair.Cooperator = want.Leaf (leaf.New named.Cooperator) ∷ want.Keye
 
 -- the callers of a script
 abbrev pub all_callers : Want
-all_callers = want.Array item.Caller
+all_callers = want.Array item_of.Caller
 
 -- the Cooperators that it names
 abbrev pub all_cooperators : Want
-all_cooperators = want.Array item.NamedCooperator
+all_cooperators = want.Array item_of.NamedCooperator
 
 -- its pools
 abbrev pub all_pools : Want
-all_pools = want.Array item.Pool
+all_pools = want.Array item_of.Pool
 
 -- the bodies that it names
 abbrev pub all_bodies : Want
-all_bodies = want.Array item.NamedBody
+all_bodies = want.Array item_of.NamedBody
 
 -- the classes that it declares
 abbrev pub all_classes : Want
-all_classes = want.Array item.Declaration
+all_classes = want.Array item_of.Declaration
 
 -- one of them
 abbrev pub one_class : Want

@@ -236,7 +236,7 @@ pub fn none(items: Elements<'_>) -> Result<(), ShapeFault>
 
 /// An argument, and the rest.
 #[tactic(auto, unfolding(crate::specs::Parts::first))]
-fn first<'t>(items: Elements<'t>) -> Result<(Json<'t>, Elements<'t>), ShapeFault>
+pub fn first<'t>(items: Elements<'t>) -> Result<(Json<'t>, Elements<'t>), ShapeFault>
     ensures { Gives (λ p. (view p.0, items_view p.1)) result
         (first (items_view items.entry)) }
 {

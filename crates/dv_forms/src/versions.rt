@@ -22,6 +22,9 @@ pub const COOPERATORS_SINCE: u32 = 3;
 /// The first version in which a time-out may have a body of its own.
 pub const TIMEOUTS_SINCE: u32 = 3;
 
+/// The first version in which the turns of a loop may have bodies of their own.
+pub const TURNS_SINCE: u32 = 3;
+
 /// The first version in which an object may have a comment.
 pub const COMMENTS_SINCE: u32 = 3;
 

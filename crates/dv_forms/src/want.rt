@@ -4,10 +4,11 @@ ghost use Rattle.std.specs.Prelude.{◌≡◌, map};
 ghost use Rattle.dv_forms.specs.Wants.{item_want, key_want, keys_in, script_want, cooperator_want};
 ghost use Rattle.dv_document.specs.View.{view};
 ghost use Rattle.dv_forms.specs.Wants.{body_want, failure_want, member_want, pair_wants};
+ghost use Rattle.dv_forms.specs.Wants.{want_for, array_or_body, has_items};
 
 use crate::failure::MOST_INDEX;
 use crate::limits::most_limit;
-use crate::versions::{BODIES_SINCE, COOPERATORS_SINCE, FIRST_VERSION, LAST_VERSION};
+use crate::versions::{BODIES_SINCE, COOPERATORS_SINCE, FIRST_VERSION, LAST_VERSION, TURNS_SINCE};
 use dv_clock::limits::MOST_DELAY;
 use dv_document::places::Json;
 use dv_document::value::Kind;
@@ -110,6 +111,8 @@ pub enum Item {
     Place,
     NamedBody,
     NamedCooperator,
+    /// The body of a turn of a loop.
+    Turn,
 }
 
 /// What a place asks for.
@@ -148,7 +151,63 @@ impl Item {
             Item::Place => Want::Leaf(Leaf::Number(0, MOST_PLACE as u64)),
             Item::NamedBody => Want::Pair(PairKind::Body),
             Item::NamedCooperator => Want::Pair(PairKind::Cooperator),
+            Item::Turn => Want::Keyed(Keyed::Body(TURNS_SINCE)),
         }
+    }
+}
+
+/// Whether this is an array of one item or more.
+fn has_items(json: Json<'_>) -> bool
+    ensures { result ≡ has_items (view json.entry) }
+{
+    match json.as_array() {
+        Some(items) => items.split_first().is_some(),
+        None => false,
+    }
+}
+
+/// What the place of an array asks for where this stands: where the turns of a loop may have bodies
+/// of their own, one body for all is no array.
+pub fn array_or_body(item: Item, json: Json<'_>) -> Want
+    ensures { result ≡ array_or_body item (view json.entry) }
+{
+    match item {
+        Item::Turn => if has_items(json) {
+            Want::Array(Item::Turn)
+        } else {
+            Want::Keyed(Keyed::Body(FIRST_VERSION))
+        },
+        Item::Value
+        | Item::Event
+        | Item::Action
+        | Item::Statement
+        | Item::Body
+        | Item::Caller
+        | Item::Deferred
+        | Item::Class
+        | Item::ListFlag
+        | Item::GatherFlag
+        | Item::Declaration
+        | Item::Pool
+        | Item::Place
+        | Item::NamedBody
+        | Item::NamedCooperator => Want::Array(item),
+    }
+}
+
+/// What an argument has to be where this stands.
+pub fn want_for(want: Want, json: Json<'_>) -> Want
+    ensures { result ≡ want_for want (view json.entry) }
+{
+    match want {
+        Want::Array(item) => array_or_body(item, json),
+        Want::Leaf(_)
+        | Want::Value
+        | Want::Call(_)
+        | Want::Pair(_)
+        | Want::Keyed(_)
+        | Want::Word(_)
+        | Want::Other(_) => want,
     }
 }
 

@@ -1,7 +1,8 @@
 //! The words of the language: where each may stand, what comes with it, and since which version.
 
 ghost use Rattle.std.specs.Prelude.{◌≡◌, ◌≤◌, ℕ, true, option_map, map, IfSome};
-ghost use Rattle.dv_forms.specs.declared.want.CallKind.TheVariants.{Action as action, Event as event};
+ghost use Rattle.dv_forms.specs.declared.want.CallKind.TheVariants.{Action as action};
+ghost use Rattle.dv_forms.specs.declared.want.CallKind.TheVariants.{Event as event};
 ghost use Rattle.dv_forms.specs.Words.{action_word, apart, end_word, event_word, has_word};
 ghost use Rattle.dv_forms.specs.Words.{may_stand, narrower, outcome_word, own_forms, seen};
 ghost use Rattle.dv_forms.specs.Words.{statement_word};
@@ -169,6 +170,8 @@ const BODY: Want = Want::Keyed(Keyed::Body(FIRST_VERSION));
 const TIMEOUT_BODY: Want = Want::Keyed(Keyed::Body(TIMEOUTS_SINCE));
 
 const BODIES: Want = Want::Array(Item::Body);
+
+const TURNS: Want = Want::Array(Item::Turn);
 
 const STATEMENTS: Want = Want::Array(Item::Statement);
 
@@ -371,7 +374,7 @@ pub const ACTION_FORMS: [Form<ActionWord>; 44] = [
     (
         ActionWord::Loop,
         "loop",
-        &[NEW_LOOP, NEW_DEFERRED, INTERVAL, BOOLEAN, BODY],
+        &[NEW_LOOP, NEW_DEFERRED, INTERVAL, BOOLEAN, TURNS],
         "[\"loop\",P,D,N,NOW,BODY]",
         1,
     ),
@@ -755,8 +758,8 @@ fn widened_form(call: CallKind, word: &str, given: usize) -> Option<(&'static [W
     }
 }
 
-/// The same as `form_of` at the place of an event: most events are actions, so a row of an action is
-/// guessed first.
+/// The same as `form_of` at the place of an event: most events are actions, so a row of an action
+/// is guessed first.
 fn event_form(word: &str, given: usize) -> Option<(&'static [Want], u32)>
     ensures wants { option_map (λ form. form.0.now) result ≡ wants_of event word.now given }
     ensures since { IfSome result (λ form. (version : ℕ) → form.1 ≤ version

@@ -1,8 +1,9 @@
 -- What holds of actions, bodies and statements: what is read is in the grammar, what is in the grammar is read, and it
 -- keeps its times.
 use Rattle.std.proofs.Common.{◌≡◌, ℕ, zero, suc, ◌≤◌, Bool, true, List, [], ◌∷◌, Option, Some, None, refl, ap, ◌∙◌}
-use Rattle.std.proofs.Common.{codes, inl, inr, nat_cmp, arith, map, min, max, nat_eq}
-use Rattle.serde_json.specs.Data.{Data, string, array, object, Items, no_items, item, Members, no_members, member}
+use Rattle.std.proofs.Common.{codes, inl, inr, nat_cmp, arith, map, min, max, nat_eq, subst}
+use Rattle.serde_json.specs.Data.{Data, boolean, string, array, object, Items, no_items, item, Members, no_members}
+use Rattle.serde_json.specs.Data.{member}
 use Rattle.serde_json.specs.Data.{depth, items_depth, members_depth}
 use Rattle.serde_json.specs.Find.{as_bool, as_array, as_str, get_member}
 use Rattle.dv_value.specs.declared.classes.Class.{Class}
@@ -30,8 +31,8 @@ use Rattle.dv_grammar.specs.Grammar.{deferred_with, callback, errback, add_callb
 use Rattle.dv_grammar.specs.Grammar.{add_callbacks, chain, pause, unpause, cancel, add_timeout, add_timeout_with, note}
 use Rattle.dv_grammar.specs.Grammar.{list, gather}
 use Rattle.dv_grammar.specs.Grammar.{maybe, lock, semaphore, acquire, release, run_with, queue, put, get, later}
-use Rattle.dv_grammar.specs.Grammar.{cancel_call, reset_call, delay_call, loop, stop_loop, cooperate, when_done}
-use Rattle.dv_grammar.specs.Grammar.{pause_task, stop_task}
+use Rattle.dv_grammar.specs.Grammar.{cancel_call, reset_call, delay_call, loop, loop_of_bodies, stop_loop, cooperate}
+use Rattle.dv_grammar.specs.Grammar.{when_done, pause_task, stop_task}
 use Rattle.dv_grammar.specs.Grammar.{cooperate_in, units_in, stop_cooperator}
 use Rattle.dv_grammar.specs.Grammar.{resume_task, inline, thread, thread_in, units, AreActions, no_actions}
 use Rattle.dv_grammar.specs.Grammar.{more_actions, IsDo}
@@ -47,7 +48,7 @@ use Rattle.dv_forms.specs.Parts.{three, four, five}
 use Rattle.dv_forms.specs.Parts.{sole, pair, triple, one_of, two_of, three_of, fields_at, field, if_there}
 use Rattle.dv_grammar.specs.Shape.{end_at, leave_at, work_at, Readers, action_with, action_by, action_of}
 use Rattle.dv_grammar.specs.Shape.{new_deferred_of, timeout_of, thread_in_of, loop_of, by_name_or, keyed_body_by}
-use Rattle.dv_grammar.specs.Shape.{body_by}
+use Rattle.dv_grammar.specs.Shape.{body_by, some_bodies, turns_at, turns_by}
 use Rattle.dv_grammar.specs.Shape.{statement_by, statement_of, readers}
 use Rattle.dv_grammar.specs.Shape.{body_at, action_at, statement_at}
 use Rattle.dv_grammar.proofs.Steps.{some_injective, bind, mapped, picked}
@@ -72,7 +73,8 @@ use Rattle.dv_script.specs.declared.action.Action.TheVariants.{outs-Put, outs-Ge
 use Rattle.dv_script.specs.declared.action.Action.TheVariants.{outs-ResetCall, outs-DelayCall}
 use Rattle.dv_script.specs.declared.action.Action.TheVariants.{outs-Loop, outs-StopLoop, outs-Cooperate, outs-WhenDone}
 use Rattle.dv_script.specs.declared.action.Action.TheVariants.{outs-PauseTask, outs-StopTask, outs-ResumeTask}
-use Rattle.dv_script.specs.declared.action.Action.TheVariants.{outs-Inline, outs-Thread, outs-ThreadIn, outs-Units, outs-CooperateIn, outs-UnitsIn}
+use Rattle.dv_script.specs.declared.action.Action.TheVariants.{outs-Inline, outs-Thread, outs-ThreadIn, outs-Units}
+use Rattle.dv_script.specs.declared.action.Action.TheVariants.{outs-CooperateIn, outs-UnitsIn}
 use Rattle.dv_script.specs.declared.action.Action.TheVariants.{outs-StopCooperator}
 use Rattle.dv_script.specs.declared.body.Statement.TheVariants.{outs-Do, outs-Await, outs-Try, outs-Finally}
 use Rattle.dv_script.specs.declared.body.Statement.TheVariants.{outs-Raise, outs-Caught, outs-End}
@@ -229,18 +231,41 @@ module _ (table : List Class) (r : Readers) (sound : AreSound table r) where
       rw (four_is ds p p_is, text_is p.0 n n_is, text_is p.1 m m_is, ← some_injective b_then)
       (thread_in n m p.2 p.3 k b (number_is 0 MOST_DELAY p.2 k k_is) (sound_work table p.3 b b_is)))))))
 
+  sound_some : (ds : Items) (t : Body × List Body) → some_bodies r.body ds ≡ Some t
+      → (d : Data) × (es : Items) × (ds ≡ item d es) × IsBody table d t.0 × AreBodies table es t.1
+  unfolding some_bodies
+  sound_some ds t e =
+      bind (first ds) _ t e (λ p p_is p_then.
+      bind (r.body p.0) _ t p_then (λ b b_is b_then.
+      bind (each r.body p.1) _ t b_then (λ bs bs_is bs_then.
+      let q = subst (λ (x : Body × List Body). IsBody table p.0 x.0 × AreBodies table p.1 x.1) (some_injective bs_then)
+      (sound.body p.0 b b_is, sound_bodies p.1 bs bs_is) in
+      (p.0, p.1, first_is ds p p_is, q.0, q.1))))
+
+  -- the bodies of the turns of a loop are in the grammar
+  sound_turns : (n m : List ℕ) (c f : Data) (k : ℕ) (now : Bool) → IsNumber 1 MOST_DELAY c k → (o : Option Items)
+      → as_array f ≡ o → (t : Body × List Body) → turns_by r.body o f ≡ Some t
+      → IsAction table (call (codes "loop") (string n ∷ string m ∷ c ∷ boolean now ∷ f ∷ []))
+      (Loop n m k now t.0 t.1)
+  sound_turns n m c f k now h None is t e =
+      mapped (r.body f) (λ b. (b, [])) t e (λ b b_is b_then. rw (← b_then)
+      (loop n m c k now f b h (sound.body f b b_is)))
+  sound_turns n m c f k now h (Some ds) is t e =
+      let g = sound_some ds t e in
+      rw (array_is f ds is, g.2) (loop_of_bodies n m c k now g.0 g.1 t.0 t.1 h g.3 g.4)
+
   pub loop_read : (ds : Items) (x : Action) → loop_of r.body ds ≡ Some x
       → IsAction table (array (item (string (codes "loop")) ds)) x
-  unfolding loop_of
+  unfolding loop_of turns_at
   loop_read ds x e =
       bind (five ds) _ x e (λ p p_is p_then.
       bind (text_at p.0) _ x p_then (λ n n_is n_then.
       bind (text_at p.1) _ x n_then (λ m m_is m_then.
       bind (number_at 1 MOST_DELAY p.2) _ x m_then (λ k k_is k_then.
       bind (as_bool p.3) _ x k_then (λ c c_is c_then.
-      bind (r.body p.4) _ x c_then (λ b b_is b_then.
-      rw (five_is ds p p_is, text_is p.0 n n_is, text_is p.1 m m_is, boolean_is p.3 c c_is, ← some_injective b_then)
-      (loop n m p.2 k c p.4 b (number_is 1 MOST_DELAY p.2 k k_is) (sound.body p.4 b b_is))))))))
+      bind (turns_at r.body p.4) _ x c_then (λ t t_is t_then.
+      rw (five_is ds p p_is, text_is p.0 n n_is, text_is p.1 m m_is, boolean_is p.3 c c_is, ← some_injective t_then)
+      (sound_turns n m p.2 p.4 k c (number_is 1 MOST_DELAY p.2 k k_is) (as_array p.4) refl t t_is)))))))
 
   -- what the word of this action reads as is in the grammar
   abbrev pub IsActionRead : ActionWord → List ℕ → Type 0
@@ -410,12 +435,18 @@ depth-get_member key (member k c ms) d e = elim (picked (slice_cmp nat_cmp key k
   | inr h ↦ rw h (omega arith)
 ]
 
+-- a body is no array
+no_array : {table : List Class} {d : Data} {b : Body} → IsBody table d b → as_array d ≡ None
+no_array (body_by_name name) = refl
+no_array (body ms xs e only g l) = refl
+
 -- ---- actions, bodies, statements
 
 mutual
   unfolding action_by action_of new_deferred_of timeout_of thread_in_of loop_of call_at none first if_any one one_or_two
       two_or_three two three
       four five sole pair triple readers body_by keyed_body_by fields_at statement_by statement_of leave_at
+      turns_at some_bodies
 
   pub complete_action : (table : List Class) {d : Data} {a : Action} (n : ℕ) → IsAction table d a → depth d ≤ n
       → action_at table n d ≡ Some a
@@ -460,7 +491,12 @@ mutual
   complete_action table n (reset_call name d delay g) h = rw (complete_number 0 MOST_DELAY d delay g) refl
   complete_action table n (delay_call name d delay g) h = rw (complete_number 0 MOST_DELAY d delay g) refl
   complete_action table n (loop name other c interval at_once d b g k) h =
-      rw (complete_number 1 MOST_DELAY c interval g, complete_body table n k (omega (arith, h))) refl
+      rw (complete_number 1 MOST_DELAY c interval g, no_array k, complete_body table n k (omega (arith, h))) refl
+  complete_action table n (loop_of_bodies name other c interval at_once d ds b bs g k l) h = rw (
+    complete_number 1 MOST_DELAY c interval g,
+    complete_body table n k (omega (arith, h)),
+    complete_bodies table n l (omega (arith, h)),
+  ) refl
   complete_action table n (stop_loop name) h = refl
   complete_action table n (cooperate name ds bodies g) h = rw (complete_bodies table n g (omega (arith, h))) refl
   complete_action table n (when_done name task) h = refl
@@ -613,8 +649,11 @@ mutual
   short_action (delay_call name d delay g) =
       by_action (DelayCall name delay) (rw (outs-DelayCall name delay) (rw (delay_is g) refl))
   short_action (loop name other c interval at_once d b g k) =
-      by_action (Loop name other interval at_once b)
-      (rw (outs-Loop name other interval at_once b) (rw (interval_is g, short_body k) refl))
+      by_action (Loop name other interval at_once b [])
+      (rw (outs-Loop name other interval at_once b []) (rw (interval_is g, short_body k) refl))
+  short_action (loop_of_bodies name other c interval at_once d ds b bs g k l) =
+      by_action (Loop name other interval at_once b bs)
+      (rw (outs-Loop name other interval at_once b bs) (rw (interval_is g, short_body k, short_bodies l) refl))
   short_action (stop_loop name) = by_action (StopLoop name) (rw (outs-StopLoop name) refl)
   short_action (cooperate name ds bodies g) =
       by_action (Cooperate name bodies) (rw (outs-Cooperate name bodies) (rw (short_bodies g) refl))

@@ -228,7 +228,14 @@ mutual
     loop : (name deferred : List ℕ) (c : Data) (interval : ℕ) (at_once : Bool) (d : Data) (body : Body)
         → IsNumber 1 MOST_DELAY c interval → IsBody table d body
         → IsAction table (call (codes "loop") (string name ∷ string deferred ∷ c ∷ boolean at_once ∷ d ∷ []))
-        (Loop name deferred interval at_once body)
+        (Loop name deferred interval at_once body [])
+    -- ["loop",P,D,N,NOW,[BODY..]], of one body or more
+    loop_of_bodies : (name deferred : List ℕ) (c : Data) (interval : ℕ) (at_once : Bool) (d : Data) (ds : Items)
+        (body : Body) (bodies : List Body) → IsNumber 1 MOST_DELAY c interval → IsBody table d body
+        → AreBodies table ds bodies
+        → IsAction table
+        (call (codes "loop") (string name ∷ string deferred ∷ c ∷ boolean at_once ∷ array (item d ds) ∷ []))
+        (Loop name deferred interval at_once body bodies)
     -- ["stopLoop",P]
     stop_loop : (name : List ℕ) → IsAction table (call (codes "stopLoop") (string name ∷ [])) (StopLoop name)
     -- ["cooperate",T,[BODY..]]
@@ -460,7 +467,8 @@ action_step (Action-F.Later name delay b) = is_delay delay && b
 action_step (Action-F.CancelCall name) = true
 action_step (Action-F.ResetCall name delay) = is_delay delay
 action_step (Action-F.DelayCall name delay) = is_delay delay
-action_step (Action-F.Loop name other interval at_once b) = is_interval interval && b
+action_step (Action-F.Loop name other interval at_once b bodies) =
+    is_interval interval && (b && list_all (λ x. x) bodies)
 action_step (Action-F.StopLoop name) = true
 action_step (Action-F.Cooperate name bodies) = list_all (λ b. b) bodies
 action_step (Action-F.WhenDone name task) = true

@@ -49,8 +49,10 @@ use Rattle.dv_forms.specs.declared.words.WorkWord.TheVariants as work
 use Rattle.dv_forms.specs.Words.{action_word, event_word, end_word, outcome_word, statement_word, work_word}
 use Rattle.dv_forms.specs.Leaving.{may_leave}
 use Rattle.dv_forms.specs.Limits.{most_limit}
-use Rattle.dv_forms.specs.Parts.{◌>>=◌, bound_at, call_at, class_at, declaration_at, field, fields_at, five, four}
-use Rattle.dv_forms.specs.Parts.{gather_flag_at, if_there, integer_at, list_at, list_flag_at, none, number_at, one_of}
+use Rattle.dv_forms.specs.Parts.{◌>>=◌, bound_at, call_at, class_at, declaration_at, each, field, fields_at, first}
+use Rattle.dv_forms.specs.Parts.{five}
+use Rattle.dv_forms.specs.Parts.{four, gather_flag_at, if_there, integer_at, list_at, list_flag_at, none, number_at}
+use Rattle.dv_forms.specs.Parts.{one_of}
 use Rattle.dv_forms.specs.Parts.{fault_at, one_or_two, table_for, text_at, three_of, two_of, two_or_three, value_at}
 use Rattle.dv_forms.specs.Answer.{with_front}
 use Rattle.dv_forms.specs.Repeat.{repeat_at}
@@ -122,7 +124,24 @@ thread_in_of table ds = do
   given ← work_at table p.3
   Some (ThreadIn name pool delay given)
 
--- a loop, whose body is read so
+-- the bodies of an array of one or more, the first apart
+unfoldable pub some_bodies : (Data → Option Body) → Items → Option (Body × List Body)
+some_bodies body ds = do
+  p ← first ds
+  b ← body p.0
+  bodies ← each body p.1
+  Some (b, bodies)
+
+-- an array of bodies, or one body
+abbrev pub turns_by : (Data → Option Body) → Option Items → Data → Option (Body × List Body)
+turns_by body None d = option_map (λ b. (b, [])) (body d)
+turns_by body (Some ds) d = some_bodies body ds
+
+-- the bodies of a loop's turns, which are read so
+unfoldable pub turns_at : (Data → Option Body) → Data → Option (Body × List Body)
+turns_at body d = turns_by body (as_array d) d
+
+-- a loop, whose bodies are read so
 unfoldable pub loop_of : (Data → Option Body) → Items → Option Action
 loop_of body ds = do
   p ← five ds
@@ -130,8 +149,8 @@ loop_of body ds = do
   deferred ← text_at p.1
   interval ← number_at 1 MOST_DELAY p.2
   at_once ← as_bool p.3
-  b ← body p.4
-  Some (Loop name deferred interval at_once b)
+  t ← turns_at body p.4
+  Some (Loop name deferred interval at_once t.0 t.1)
 
 -- an action that takes a name and a body
 abbrev pub with_body : WithBody → List ℕ → Body → Action

@@ -12,9 +12,12 @@ use Rattle.dv_forms.specs.declared.want.CallKind.{CallKind}
 use Rattle.dv_forms.specs.declared.want.CallKind.TheVariants as call
 use Rattle.dv_forms.specs.declared.want.Keyed.{Keyed}
 use Rattle.dv_forms.specs.declared.want.Keyed.TheVariants as keyed
+use Rattle.dv_forms.specs.declared.want.Item.{Item}
+use Rattle.dv_forms.specs.declared.want.Item.TheVariants as item_of
 use Rattle.dv_forms.specs.declared.want.Want.{Want}
 use Rattle.dv_forms.specs.declared.want.Want.TheVariants as want
 use Rattle.dv_forms.specs.Wants.{item_want, pair_wants}
+use Rattle.dv_forms.specs.declared.versions.TheConstants.{TURNS_SINCE}
 use Rattle.dv_script.specs.declared.limits.TheConstants.{MOST_PLACES}
 
 -- what has a name
@@ -117,6 +120,32 @@ nested_data (want.Array i) = array_of (flat_data (item_want i))
 nested_data (want.Word c) = flat_data (want.Word c)
 nested_data (want.Other k) = flat_data (want.Other k)
 
+-- the bodies of a loop's turns: one body, or from this version on an array of one or more
+abbrev pub turns_data : Data
+turns_data =
+    object (member (codes "of") (flat_data (item_want item_of.Turn))
+    (member (codes "since") (number (unsigned TURNS_SINCE))
+    (member (codes "type") (string (codes "turns")) no_members)))
+
+-- an array of such items, or the bodies of a loop's turns
+abbrev pub array_data : Item → Data
+array_data item_of.Value = array_of (nested_data (item_want item_of.Value))
+array_data item_of.Event = array_of (nested_data (item_want item_of.Event))
+array_data item_of.Action = array_of (nested_data (item_want item_of.Action))
+array_data item_of.Statement = array_of (nested_data (item_want item_of.Statement))
+array_data item_of.Body = array_of (nested_data (item_want item_of.Body))
+array_data item_of.Caller = array_of (nested_data (item_want item_of.Caller))
+array_data item_of.Deferred = array_of (nested_data (item_want item_of.Deferred))
+array_data item_of.Class = array_of (nested_data (item_want item_of.Class))
+array_data item_of.ListFlag = array_of (nested_data (item_want item_of.ListFlag))
+array_data item_of.GatherFlag = array_of (nested_data (item_want item_of.GatherFlag))
+array_data item_of.Declaration = array_of (nested_data (item_want item_of.Declaration))
+array_data item_of.Pool = array_of (nested_data (item_want item_of.Pool))
+array_data item_of.Place = array_of (nested_data (item_want item_of.Place))
+array_data item_of.NamedBody = array_of (nested_data (item_want item_of.NamedBody))
+array_data item_of.NamedCooperator = array_of (nested_data (item_want item_of.NamedCooperator))
+array_data item_of.Turn = turns_data
+
 -- what a place asks for: nowhere do arrays and pairs nest deeper than this
 abbrev pub want_data : Want → Data
 want_data (want.Leaf l) = leaf_data l
@@ -124,7 +153,7 @@ want_data want.Value = flat_data want.Value
 want_data (want.Call c) = flat_data (want.Call c)
 want_data (want.Pair p) = nested_data (want.Pair p)
 want_data (want.Keyed k) = flat_data (want.Keyed k)
-want_data (want.Array i) = array_of (nested_data (item_want i))
+want_data (want.Array i) = array_data i
 want_data (want.Word c) = flat_data (want.Word c)
 want_data (want.Other k) = flat_data (want.Other k)
 

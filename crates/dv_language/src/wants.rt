@@ -7,9 +7,11 @@ ghost use Rattle.serde_json.specs.Find.{of_integer};
 ghost use Rattle.serde_json.specs.View.{items_of, view};
 ghost use Rattle.dv_language.specs.Wants.{object_name, place_name, keyed_name, numbers, flags};
 ghost use Rattle.dv_language.specs.Wants.{list_words, gather_words, leaf_data, flat_data};
-ghost use Rattle.dv_language.specs.Wants.{nested_data, want_data, wants_data};
+ghost use Rattle.dv_language.specs.Wants.{array_data, nested_data, turns_data, want_data};
+ghost use Rattle.dv_language.specs.Wants.{wants_data};
 
-use dv_forms::want::{CallKind, Keyed, Leaf, Object, Want};
+use dv_forms::versions::TURNS_SINCE;
+use dv_forms::want::{CallKind, Item, Keyed, Leaf, Object, Want};
 use dv_script::limits::MOST_PLACES;
 use serde_json::{Value as Json, json, push};
 use std::alloc::{AllocError, Global};
@@ -147,14 +149,46 @@ fn nested_json(alloc: Global, want: Want) -> Result<Json, AllocError>
     }
 }
 
+/// The bodies of a loop's turns: one body, or from this version on an array of one or more.
+fn turns_json(alloc: Global) -> Result<Json, AllocError>
+    ensures { IfOk result (λ json. view json ≡ turns_data) }
+{
+    let body = flat_json(alloc, Item::Turn.want())?;
+    json!(in alloc; {"type": "turns", "of": body, "since": TURNS_SINCE})
+}
+
+/// An array of such items, or the bodies of a loop's turns.
+fn array_json(alloc: Global, item: Item) -> Result<Json, AllocError>
+    ensures { IfOk result (λ json. view json ≡ array_data item) }
+{
+    match item {
+        Item::Turn => turns_json(alloc),
+        Item::Value
+        | Item::Event
+        | Item::Action
+        | Item::Statement
+        | Item::Body
+        | Item::Caller
+        | Item::Deferred
+        | Item::Class
+        | Item::ListFlag
+        | Item::GatherFlag
+        | Item::Declaration
+        | Item::Pool
+        | Item::Place
+        | Item::NamedBody
+        | Item::NamedCooperator => {
+            json!(in alloc; {"type": "array", "of": nested_json(alloc, item.want())?})
+        }
+    }
+}
+
 /// What a place asks for. Nowhere do arrays and pairs nest deeper than this.
 pub fn want_json(alloc: Global, want: Want) -> Result<Json, AllocError>
     ensures { IfOk result (λ json. view json ≡ want_data want) }
 {
     match want {
-        Want::Array(item) => {
-            json!(in alloc; {"type": "array", "of": nested_json(alloc, item.want())?})
-        }
+        Want::Array(item) => array_json(alloc, item),
         Want::Leaf(_)
         | Want::Value
         | Want::Call(_)

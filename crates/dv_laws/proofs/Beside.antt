@@ -90,8 +90,8 @@ pub data LoopsKept (old : List LoopingCall) : List LoopingCall → Type 0 where
 -- so it is where nothing is logged of loops; or one is started, or its next turn is scheduled, which is logged
 pub data Loops (e : Entry) (clock : Clock) (old : List LoopingCall) : List LoopingCall → Type 0 where
   LoopsRest : (new : List LoopingCall) → looping_of e ≡ Unlooped → LoopsKept old new → Loops e clock old new
-  LoopStarts : (name : List ℕ) (d interval : ℕ) (body : Body) → e ≡ entry.Loop name d
-      → Loops e clock old (old ++ new_loop name d clock.time interval body ∷ [])
+  LoopStarts : (name : List ℕ) (d interval : ℕ) (body : Body) (bodies : List Body) → e ≡ entry.Loop name d
+      → Loops e clock old (old ++ new_loop name d clock.time interval body bodies ∷ [])
   LoopTurns : (l : ℕ) (x y : LoopingCall) → slice_get old l ≡ Some x → y.name ≡ x.name → y.start ≡ x.start
       → y.interval ≡ x.interval → e ≡ entry.LaterLoop x.name (next_due x clock) → Loops e clock old (slice_set old l y)
 

@@ -22,7 +22,7 @@ use Rattle.dv_clock.specs.Due.{scheduling}
 use Rattle.dv_world.specs.World.{World, step, append, fire, cancel, pause, unpause, make, aside, arrange}
 use Rattle.dv_world.specs.World.{child_fired_found, child_fired_in, take_due_found, waiting_cancelled, state_cancelled}
 use Rattle.dv_world.specs.World.{call_cancelled, cancel_call, waiting_reset, state_reset, call_reset, reset_call}
-use Rattle.dv_world.specs.World.{start_timer, turn_scheduled, loop_stopped, end_loop, task_told, task_ended}
+use Rattle.dv_world.specs.World.{start_timer, turn_scheduled, loop_stopped, begin_turn, end_loop, task_told, task_ended}
 use Rattle.dv_world.specs.World.{tick_dropped, tick_kept, cooperator_of, keep_tick, step_taken, turn_taken}
 use Rattle.dv_world.specs.World.{resume_inline, end_await, submit, deliver_later}
 use Rattle.dv_script.specs.declared.work.Work.{Work}
@@ -57,7 +57,7 @@ use Rattle.dv_clock.specs.declared.limits.TheConstants.{MOST_DELAY}
 use Rattle.dv_objects.specs.Objects.{with_new_call, with_timer, with_delivery, with_tick, without_tick}
 use Rattle.dv_objects.specs.Looping.{with_turn}
 use Rattle.dv_clock.specs.Clock.{Clock}
-use Rattle.dv_objects.specs.Looping.{turn_dropped, with_stopped, with_ended}
+use Rattle.dv_objects.specs.Looping.{turn_begun, turn_dropped, with_turn_begun, with_stopped, with_ended}
 use Rattle.dv_objects.specs.declared.canceller.Canceller.{Canceller}
 use Rattle.dv_world.specs.World.{fire_then_swallow, call_later, schedule_tick, reached_from}
 use Rattle.dv_journal.specs.Journal.{fits, with_entry}
@@ -355,6 +355,57 @@ end_loop_comes l w =
     (loop_arranged l (slice_get w.objects.loops l) w.objects refl)
     (ended_names l (slice_get w.objects.loops l) w.objects)
 
+-- a turn that begins changes only which bodies are to come
+begun_name : (bodies : List body_of.Body) (x : LoopingCall) → (turn_begun bodies x).name ≡ x.name
+begun_name [] x = refl
+begun_name (body ∷ rest) x = refl
+
+begun_start : (bodies : List body_of.Body) (x : LoopingCall) → (turn_begun bodies x).start ≡ x.start
+begun_start [] x = refl
+begun_start (body ∷ rest) x = refl
+
+begun_interval : (bodies : List body_of.Body) (x : LoopingCall) → (turn_begun bodies x).interval ≡ x.interval
+begun_interval [] x = refl
+begun_interval (body ∷ rest) x = refl
+
+begun_same : (l : ℕ) (o : Option LoopingCall) (objects : Objects)
+    → Arranges objects.clock (with_turn_begun l o objects).clock
+begun_same l None objects = Stays
+begun_same l (Some x) objects = Stays
+
+begun_lines : (l : ℕ) (o : Option LoopingCall) (objects : Objects) → LinesStay objects (with_turn_begun l o objects)
+begun_lines l None objects = (refl, refl)
+begun_lines l (Some x) objects = (refl, refl)
+
+begun_names : (l : ℕ) (o : Option LoopingCall) (objects : Objects) → (with_turn_begun l o objects).names ≡ objects.names
+begun_names l None objects = refl
+begun_names l (Some x) objects = refl
+
+begun_loops : (l : ℕ) (o : Option LoopingCall) (objects : Objects) → slice_get objects.loops l ≡ o
+    → Regular objects.loops → Regular (with_turn_begun l o objects).loops
+begun_loops l None objects h k = k
+begun_loops l (Some x) objects h k =
+    regular_set l x (turn_begun x.bodies x) objects.loops h (begun_interval x.bodies x) k
+
+begun_arranged : (l : ℕ) (o : Option LoopingCall) (objects : Objects) → slice_get objects.loops l ≡ o
+    → Arranged objects (with_turn_begun l o objects)
+begun_arranged l None objects h = arranging _ _ refl refl refl refl refl
+begun_arranged l (Some x) objects h = record {
+  tasks = refl;
+  turns = refl;
+  locks = beside.SameLocks _ refl;
+  queues = beside.SameQueues _ refl;
+  loops = beside.LoopSet l x (turn_begun x.bodies x) h (begun_name x.bodies x) (begun_start x.bodies x)
+      (begun_interval x.bodies x);
+}
+
+begin_turn_comes : (l : ℕ) (w : World) → Quietly w (begin_turn l w)
+begin_turn_comes l w =
+    by_arrange _ w (begun_lines l (slice_get w.objects.loops l) w.objects)
+    (begun_same l (slice_get w.objects.loops l) w.objects) (begun_loops l (slice_get w.objects.loops l) w.objects refl)
+    (begun_arranged l (slice_get w.objects.loops l) w.objects refl)
+    (begun_names l (slice_get w.objects.loops l) w.objects)
+
 told_task_comes : (e : Task → Entry) (change : Task → Cooperators → Cooperators) (o : Option Task) (w : World)
     → ((x : Task) → change_of (e x) ≡ Aside) → ((x : Task) → LeavesLines (e x))
     → ((x : Task) → IsPlain (e x))
@@ -649,10 +700,13 @@ step_quiet (steps.EndTimer t) w m =
     by_arrange (with_ended_call t call_state.Dropped) w (refl, refl) (Loses t) (λ k. k)
     (arranging _ _ refl refl refl refl refl) refl
 step_quiet (steps.CallLater name delay body) w m = call_later_comes name delay body w
-step_quiet (steps.NewLoop name d interval body) w m =
+step_quiet (steps.NewLoop name d interval body bodies) w m =
     by_aside (entry.Loop name d) _ w refl (tt, tt) (λ k. Leaves (refl, refl, refl))
-    (λ k. regular_push (new_loop name d w.objects.clock.time interval body) w.objects.loops (new_regular interval) k)
-    (loop_beside _ _ _ (beside.LoopStarts name d interval body refl) refl refl refl refl refl refl) refl
+    (λ k.
+    regular_push (new_loop name d w.objects.clock.time interval body bodies) w.objects.loops (new_regular interval)
+    k)
+    (loop_beside _ _ _ (beside.LoopStarts name d interval body bodies refl) refl refl refl refl refl refl) refl
+step_quiet (steps.BeginTurn l) w m = begin_turn_comes l w
 step_quiet (steps.ScheduleTurn l) w m = scheduled_comes l (slice_get w.objects.loops l) w refl
 step_quiet (steps.StopLoop l) w m = loop_stopped_comes l (slice_get w.objects.loops l) w refl
 step_quiet (steps.EndLoop l) w m = end_loop_comes l w
@@ -681,7 +735,8 @@ step_quiet (steps.SetUnitsIn k name units) w m =
     (turns_stay k (with_units units) w.objects.cooperators.all (λ one. refl)) refl refl refl) refl
 step_quiet (steps.Halt k name) w m =
     by_aside (entry.StopCooperator name) _ w refl (tt, tt) (λ r. Leaves (refl, refl, refl)) (λ r. r)
-    (resting _ _ _ refl refl refl refl refl (turns_stay k halted w.objects.cooperators.all (λ one. refl)) refl refl refl)
+    (resting _ _ _ refl refl refl refl refl
+    (turns_stay k halted w.objects.cooperators.all (λ one. refl)) refl refl refl)
     refl
 step_quiet (steps.SetUnits units) w m =
     by_aside (entry.Units units) _ w refl (tt, tt) (λ r. Leaves (refl, refl, refl)) (λ r. r)

@@ -262,13 +262,14 @@ turn_is name l x c old entries h k due start q s =
 no_later : (name made : List ℕ) (d due : ℕ) (P : Type 0) → entry.Loop made d ≡ entry.LaterLoop name due → P
 no_later name made d due P q = absurd cc
 
-other_starts : (name made : List ℕ) (d interval : ℕ) (body : Body) (c u : Clock) (old : List LoopingCall)
+other_starts : (name made : List ℕ) (d interval : ℕ) (body : Body) (bodies : List Body) (c u : Clock)
+    (old : List LoopingCall)
     (entries : List Entry) → bytes_eq made name ≡ false → u.time ≡ c.time
     → Timely Ticking u (entries ++ entry.Loop made d ∷ []) → Looped name c old entries
-    → Looped name u (old ++ new_loop made d c.time interval body ∷ []) (entries ++ entry.Loop made d ∷ [])
-other_starts name made d interval body c u old entries b same t k =
+    → Looped name u (old ++ new_loop made d c.time interval body bodies ∷ []) (entries ++ entry.Loop made d ∷ [])
+other_starts name made d interval body bodies c u old entries b same t k =
     let e = entry.Loop made d in
-    let y = new_loop made d c.time interval body in
+    let y = new_loop made d c.time interval body bodies in
     let none : cond {A = ℕ} (bytes_eq made name) 1 0 ≡ 0 = ap {B = ℕ} (λ x. cond x 1 0) b in
     let other : bytes_eq made name ≡ true → ⊥ = λ h. let wrong : false ≡ true = sym b ∙ h in absurd cc in
     let count : starts name (entries ++ e ∷ []) ≡ starts name entries =
@@ -293,13 +294,14 @@ other_starts name made d interval body c u old entries b same t k =
           (λ due start q s. no_later name made d due _ q);
     }
 
-own_starts : (name : List ℕ) (n d interval : ℕ) (body : Body) (c u : Clock) (old : List LoopingCall)
+own_starts : (name : List ℕ) (n d interval : ℕ) (body : Body) (bodies : List Body) (c u : Clock)
+    (old : List LoopingCall)
     (entries : List Entry) → starts name entries ≡ n → u.time ≡ c.time
     → Timely Ticking u (entries ++ entry.Loop name d ∷ []) → Looped name c old entries
-    → Looped name u (old ++ new_loop name d c.time interval body ∷ []) (entries ++ entry.Loop name d ∷ [])
-own_starts name zero d interval body c u old entries z same t k =
+    → Looped name u (old ++ new_loop name d c.time interval body bodies ∷ []) (entries ++ entry.Loop name d ∷ [])
+own_starts name zero d interval body bodies c u old entries z same t k =
     let e = entry.Loop name d in
-    let y = new_loop name d c.time interval body in
+    let y = new_loop name d c.time interval body bodies in
     let one : cond {A = ℕ} (bytes_eq name name) 1 0 ≡ 1 =
     ap {B = ℕ} (λ x. cond x 1 0) ((bytes_eq-Decides name name).1 refl) in
     record {
@@ -328,9 +330,9 @@ own_starts name zero d interval body c u old entries z same t k =
           → IsNextTurn start y.interval (time_by told) due) e entries (none_yet name y.interval entries z)
           (λ due start q s. no_later name name d due _ q);
     }
-own_starts name (suc n) d interval body c u old entries z same t k =
+own_starts name (suc n) d interval body bodies c u old entries z same t k =
     let e = entry.Loop name d in
-    let y = new_loop name d c.time interval body in
+    let y = new_loop name d c.time interval body bodies in
     let one : cond {A = ℕ} (bytes_eq name name) 1 0 ≡ 1 =
     ap {B = ℕ} (λ x. cond x 1 0) ((bytes_eq-Decides name name).1 refl) in
     let more = sum_by_push (λ x. starts_by name (looping_of x)) entries e in
@@ -350,17 +352,18 @@ own_starts name (suc n) d interval body c u old entries z same t k =
           (λ due start q s. no_later name name d due _ q);
     }
 
-starts_one : (b : Bool) (name made : List ℕ) (d interval : ℕ) (body : Body) (c u : Clock) (old : List LoopingCall)
+starts_one : (b : Bool) (name made : List ℕ) (d interval : ℕ) (body : Body) (bodies : List Body) (c u : Clock)
+    (old : List LoopingCall)
     (entries : List Entry) → bytes_eq made name ≡ b → u.time ≡ c.time
     → Timely Ticking u (entries ++ entry.Loop made d ∷ []) → Looped name c old entries
-    → Looped name u (old ++ new_loop made d c.time interval body ∷ []) (entries ++ entry.Loop made d ∷ [])
-starts_one true name made d interval body c u old entries b same t k =
+    → Looped name u (old ++ new_loop made d c.time interval body bodies ∷ []) (entries ++ entry.Loop made d ∷ [])
+starts_one true name made d interval body bodies c u old entries b same t k =
     let is : name ≡ made = sym ((bytes_eq-Decides made name).0 b) in
     subst (λ m. Timely Ticking u (entries ++ entry.Loop m d ∷ [])
-    → Looped name u (old ++ new_loop m d c.time interval body ∷ []) (entries ++ entry.Loop m d ∷ [])) is
-    (λ x. own_starts name _ d interval body c u old entries refl same x k) t
-starts_one false name made d interval body c u old entries b same t k =
-    other_starts name made d interval body c u old entries b same t k
+    → Looped name u (old ++ new_loop m d c.time interval body bodies ∷ []) (entries ++ entry.Loop m d ∷ [])) is
+    (λ x. own_starts name _ d interval body bodies c u old entries refl same x k) t
+starts_one false name made d interval body bodies c u old entries b same t k =
+    other_starts name made d interval body bodies c u old entries b same t k
 
 -- 5. Runs.
 
@@ -371,12 +374,12 @@ looped name e c d old new entries h (LoopsRest other a f) k =
     goes name e c d old other entries (ap (starts_by name) a) (omega (arith, same)) (omega (arith, same, k.within))
     (clocks_tell Ticking e c d entries h k.timely) (follows name old other f) k
     (λ due start q s. no_turn name due e _ a q)
-looped name e c d old new entries h (LoopStarts made n interval body q) k =
+looped name e c d old new entries h (LoopStarts made n interval body bodies q) k =
     let same = clocks_same e c d h in
     let t : Timely Ticking d (entries ++ entry.Loop made n ∷ []) =
     subst (λ x. Timely Ticking d (entries ++ x ∷ [])) q (clocks_tell Ticking e c d entries h k.timely) in
-    subst (λ x. Looped name d (old ++ new_loop made n c.time interval body ∷ []) (entries ++ x ∷ [])) (sym q)
-    (starts_one _ name made n interval body c d old entries refl same t k)
+    subst (λ x. Looped name d (old ++ new_loop made n c.time interval body bodies ∷ []) (entries ++ x ∷ [])) (sym q)
+    (starts_one _ name made n interval body bodies c d old entries refl same t k)
 looped name e c d old new entries h (LoopTurns l x y g n s i q) k =
     let same = clocks_same e c d h in
     goes name e c d old (slice_set old l y) entries (ap (λ z. starts_by name (looping_of z)) q) (omega (arith, same))

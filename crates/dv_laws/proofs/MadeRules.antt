@@ -154,10 +154,10 @@ release_sound l w = (tt, λ s q. (tt, (tt, (tt, λ d r. tt))))
 body_sound : (purpose : Purpose) (body : body_of.Body) (w : World) → Sound w (page.as_deferred purpose body)
 body_sound purpose body w = (tt, (tt, (tt, tt)))
 
-loop_sound : (name of : List ℕ) (interval : ℕ) (b : Bool) (body : body_of.Body) (w : World)
-    → Sound w (page.loop name of interval b body)
-loop_sound name of interval b body w =
-    (tt, (tt, ((tt, (tt, (tt, (tt, tt)))), (tt, tt))))
+loop_sound : (name of : List ℕ) (interval : ℕ) (b : Bool) (body : body_of.Body) (bodies : List body_of.Body) (w : World)
+    → Sound w (page.loop name of interval b body bodies)
+loop_sound name of interval b body bodies w =
+    (tt, (tt, ((tt, (tt, (tt, (tt, (tt, tt))))), (tt, tt))))
 
 notify_sound : (d t : ℕ) (w : World) → Sound w (page.notify d t)
 notify_sound d t w = (tt, λ x q. (tt, λ end r. tt))
@@ -204,7 +204,8 @@ carry_sound itself (Action-F.Later name delay body) w = (tt, tt)
 carry_sound itself (Action-F.CancelCall name) w = (tt, λ number q. λ p h. h)
 carry_sound itself (Action-F.ResetCall name delay) w = (tt, λ number q. λ p h. h)
 carry_sound itself (Action-F.DelayCall name delay) w = (tt, λ number q. λ p h. h)
-carry_sound itself (Action-F.Loop name of interval at_once body) w = loop_sound name of interval at_once body w
+carry_sound itself (Action-F.Loop name of interval at_once body bodies) w =
+    loop_sound name of interval at_once body bodies w
 carry_sound itself (Action-F.StopLoop name) w = (tt, λ l q. (tt, λ x r. (tt, (tt, (tt, tt)))))
 carry_sound itself (Action-F.Units units) w = (tt, tt)
 carry_sound itself (Action-F.Cooperate name bodies) w = (tt, (tt, tt))
@@ -282,7 +283,7 @@ step_sound t (Awaits e) w = (tt, λ x q. (tt, (tt, (tt, (tt, tt)))))
 due_sound : (o : Option Due) (w : World) → Sound w (page.run_next o)
 due_sound None w = tt
 due_sound (Some (what.Call name key)) w = ((tt, (tt, tt)), λ body q. (tt, (tt, (tt, (tt, tt)))))
-due_sound (Some (what.Turn name key)) w = ((tt, λ x q. body_sound (Turning key) x.body w), (tt, tt))
+due_sound (Some (what.Turn name key)) w = ((tt, λ x q. (tt, body_sound (Turning key) x.body w)), (tt, tt))
 due_sound (Some what.Tick) w = (begin_sound 0 w, (tt, tt))
 due_sound (Some (what.TickIn name k)) w = (begin_sound k w, (tt, tt))
 due_sound (Some (what.Delivery job d)) w = ((tt, λ work q. tt), (tt, (tt, tt)))

@@ -26,8 +26,9 @@ use Rattle.dv_prims.specs.Queue.{Queue, may_put, receiver, put_to}
 use Rattle.dv_prims.specs.Tokens.{Semaphore, is_unheld}
 use Rattle.dv_definition.specs.Steps.{Step, stepped, Question, asked, Make, Name, Append, FireThenSwallow, Pause, Note}
 use Rattle.dv_definition.specs.Steps.{TellTurn, TellUnhandled, NewLock, NewSemaphore, Ask, Release, Forget, NewQueue}
-use Rattle.dv_definition.specs.Steps.{Withdraw, NewList, StartTimer, EndTimer, CallLater, NewLoop, ScheduleTurn}
-use Rattle.dv_definition.specs.Steps.{StopLoop, EndLoop, NewTask, AwaitTask, PauseTask, ResumeTask, HoldTask, KeepTick}
+use Rattle.dv_definition.specs.Steps.{Withdraw, NewList, StartTimer, EndTimer, CallLater, NewLoop, BeginTurn}
+use Rattle.dv_definition.specs.Steps.{ScheduleTurn, StopLoop, EndLoop, NewTask, AwaitTask, PauseTask, ResumeTask}
+use Rattle.dv_definition.specs.Steps.{HoldTask, KeepTick}
 use Rattle.dv_definition.specs.Steps.{NewTaskIn, SetUnitsIn, Halt}
 use Rattle.dv_definition.specs.Steps.{SetUnits, BeginBody, BeginTick, EndTick, AddInline, BeginAwait, Submit}
 use Rattle.dv_definition.specs.Steps.{DeliverLater, Advance, TellMet, TellUnmet, TellUnbound, StopRun, TellDrain}
@@ -39,7 +40,8 @@ use Rattle.dv_world.specs.World.{arrange, child_fired_found, child_fired_in, tak
 use Rattle.dv_world.specs.World.{state_cancelled}
 use Rattle.dv_world.specs.World.{call_cancelled, cancel_call, waiting_reset, state_reset, call_reset, reset_call}
 use Rattle.dv_world.specs.World.{turn_scheduled, loop_stopped, task_told, task_ended}
-use Rattle.dv_world.specs.World.{cooperator_of, tick_dropped, tick_kept, keep_tick, step_taken, turn_taken, resume_inline, end_await}
+use Rattle.dv_world.specs.World.{cooperator_of, tick_dropped, tick_kept, keep_tick, step_taken, turn_taken}
+use Rattle.dv_world.specs.World.{resume_inline, end_await}
 
 pub same : (w : World) → Comes w w
 same w = record { keeps = λ R l. l.stays w }
@@ -227,7 +229,8 @@ step_comes (NewList n flags) w = record { keeps = λ R l. l.by_arrange _ w }
 step_comes (StartTimer d delay) w = by_aside (entry.LaterTimeout d _) _ w refl
 step_comes (EndTimer t) w = record { keeps = λ R l. l.by_arrange _ w }
 step_comes (CallLater name delay body) w = by_aside (entry.LaterCall name _) _ w refl
-step_comes (NewLoop name d interval body) w = by_aside (entry.Loop name d) _ w refl
+step_comes (NewLoop name d interval body bodies) w = by_aside (entry.Loop name d) _ w refl
+step_comes (BeginTurn l) w = record { keeps = λ R k. k.by_arrange _ w }
 step_comes (ScheduleTurn l) w = scheduled_comes l (slice_get w.objects.loops l) w
 step_comes (StopLoop l) w = loop_stopped_comes l (slice_get w.objects.loops l) w
 step_comes (EndLoop l) w = record { keeps = λ R k. k.by_arrange _ w }

@@ -95,7 +95,7 @@ pub fn act<'s>(
         Action::DelayCall(name, delay) => {
             reset_call(turn, name.as_str(), DelayFrom::Due, *delay)
         }
-        Action::Loop(name, of, interval, at_once, body) => {
+        Action::Loop(name, of, interval, at_once, body, bodies) => {
             let (name, of) = (TextRef::new(name), TextRef::new(of));
             start_loop(
                 turn,
@@ -104,6 +104,7 @@ pub fn act<'s>(
                 *interval,
                 *at_once,
                 BodyRef::new(body.get()),
+                BodiesRef::new(bodies.as_slice()),
             )
         }
         Action::StopLoop(name) => stop_loop(turn, name.as_str()),

@@ -1,5 +1,6 @@
 -- Loops (Twisted: `LoopingCall`).
-use Rattle.std.specs.Prelude.{ℕ, max, min, Bool, true, false, List, [], ◌∷◌, ◌++◌, length, Option, None, Some}
+use Rattle.std.specs.Prelude.{ℕ, zero, suc, max, min, Bool, true, false, List, [], ◌∷◌, ◌++◌, length, Option, None}
+use Rattle.std.specs.Prelude.{Some}
 use Rattle.std.specs.Prelude.{slice_set}
 use Rattle.std.specs.Option.{option_map_or}
 use Rattle.dv_clock.specs.Clock.{Clock, turn_after, waits, with_call, ended}
@@ -12,8 +13,8 @@ use Rattle.dv_objects.specs.Objects.{Objects}
 use Rattle.dv_objects.specs.declared.looping_call.LoopingCall.{LoopingCall}
 
 -- a loop that is started now, of which no turn is scheduled
-abbrev pub new_loop : List ℕ → ℕ → ℕ → ℕ → Body → LoopingCall
-new_loop name d now interval body = record {
+abbrev pub new_loop : List ℕ → ℕ → ℕ → ℕ → Body → List Body → LoopingCall
+new_loop name d now interval body bodies = record {
   name = name;
   of = d;
   start = now;
@@ -21,6 +22,7 @@ new_loop name d now interval body = record {
   running = true;
   turn = None;
   body = body;
+  bodies = bodies;
 }
 
 -- a loop is added, and its name is bound to it
@@ -30,8 +32,9 @@ with_added_loop x objects = record objects {
   loops = objects.loops ++ x ∷ [];
 }
 
-abbrev pub with_new_loop : List ℕ → ℕ → ℕ → Body → Objects → Objects
-with_new_loop name d interval body objects = with_added_loop (new_loop name d objects.clock.time interval body) objects
+abbrev pub with_new_loop : List ℕ → ℕ → ℕ → Body → List Body → Objects → Objects
+with_new_loop name d interval body bodies objects =
+    with_added_loop (new_loop name d objects.clock.time interval body bodies) objects
 
 -- whether a turn of a loop is scheduled, and still waits
 abbrev pub is_scheduled : LoopingCall → Clock → Bool
@@ -40,6 +43,27 @@ is_scheduled x c = option_map_or (λ number. waits number c.calls) x.turn false
 -- when the next turn of a loop is due
 abbrev pub next_due : LoopingCall → Clock → ℕ
 next_due x c = turn_after x.start x.interval c
+
+-- a turn has begun: the next one performs the next of the bodies, where one is left, or else the same
+abbrev pub turn_begun : List Body → LoopingCall → LoopingCall
+turn_begun [] x = x
+turn_begun (body ∷ rest) x = record x { body = body; bodies = rest }
+
+-- a turn of the loop that is found has begun; an id of no loop changes nothing
+abbrev pub with_turn_begun : ℕ → Option LoopingCall → Objects → Objects
+with_turn_begun l None objects = objects
+with_turn_begun l (Some x) objects = record objects { loops = slice_set objects.loops l (turn_begun x.bodies x) }
+
+-- a loop after this many turns have begun
+abbrev pub after_turns : ℕ → LoopingCall → LoopingCall
+after_turns zero x = x
+after_turns (suc turns) x = after_turns turns (turn_begun x.bodies x)
+
+-- of a body and those after it, the one of this number from 0 on; from the last one on that
+abbrev pub body_or_last : ℕ → Body → List Body → Body
+body_or_last zero body rest = body
+body_or_last (suc turn) body [] = body
+body_or_last (suc turn) body (next ∷ rest) = body_or_last turn next rest
 
 -- the next turn of loop l is scheduled
 abbrev pub with_turn : ℕ → LoopingCall → Objects → Objects

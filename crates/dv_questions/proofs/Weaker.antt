@@ -15,7 +15,7 @@ use Rattle.dv_forms.specs.declared.want.Keyed.{Keyed}
 use Rattle.dv_forms.specs.declared.want.Keyed.TheVariants as keyed
 use Rattle.dv_forms.specs.declared.want.Leaf.TheVariants as leaf_of
 use Rattle.dv_forms.specs.declared.want.Object.TheVariants as object
-use Rattle.dv_forms.specs.Wants.{item_want, key_want, keys_in, member_want, pair_wants}
+use Rattle.dv_forms.specs.Wants.{item_want, key_want, keys_in, member_want, pair_wants, want_for}
 use Rattle.dv_forms.specs.Words.{wants_of}
 use Rattle.dv_questions.specs.Questions.{Asked, words, names, classes, pools, bodies, every, stands, is_named}
 use Rattle.dv_questions.specs.Questions.{is_known, is_pooled, is_declared, is_scheduled, cooperators}
@@ -60,7 +60,8 @@ one_too : (f g : Want → Data → Bool) → Leads f g → (ws : List Want) (ds 
 one_too f g k [] ds h = refl
 one_too f g k (w ∷ ws) no_items h = refl
 one_too f g k (w ∷ ws) (item d ds) h =
-    let p = and_parts (f w d) (one_for_one f ws ds) h in both (k w d p.0) (one_too f g k ws ds p.1)
+    let p = and_parts (f (want_for w d) d) (one_for_one f ws ds) h in
+    both (k (want_for w d) d p.0) (one_too f g k ws ds p.1)
 
 arguments_too : (f g : Want → Data → Bool) → Leads f g → (o : Option (List Want)) (ds : Items)
     → arguments_suit f o ds ≡ true → arguments_suit g o ds ≡ true

@@ -10,7 +10,7 @@ use Rattle.dv_forms.specs.declared.want.Keyed.{Keyed}
 use Rattle.dv_forms.specs.declared.want.Keyed.TheVariants as keyed
 use Rattle.dv_forms.specs.declared.want.Leaf.TheVariants as leaf
 use Rattle.dv_forms.specs.declared.want.Object.TheVariants as object
-use Rattle.dv_forms.specs.Wants.{item_want, key_want, keys_in, member_want, pair_wants}
+use Rattle.dv_forms.specs.Wants.{item_want, key_want, keys_in, member_want, pair_wants, want_for}
 use Rattle.dv_forms.specs.Words.{wants_of}
 use Rattle.dv_questions.specs.Questions.{Asked}
 
@@ -42,7 +42,7 @@ each_member good (item d ds) = good (member_want d) d && each_member good ds
 abbrev pub one_for_one : (Want → Data → Bool) → List Want → Items → Bool
 one_for_one good [] ds = true
 one_for_one good (w ∷ ws) no_items = true
-one_for_one good (w ∷ ws) (item d ds) = good w d && one_for_one good ws ds
+one_for_one good (w ∷ ws) (item d ds) = good (want_for w d) d && one_for_one good ws ds
 
 -- of the arguments of a word, where it has a form with so many
 abbrev pub arguments_suit : (Want → Data → Bool) → Option (List Want) → Items → Bool

@@ -3,7 +3,7 @@
 ghost use Rattle.std.specs.Prelude.{◌≡◌, true};
 ghost use Rattle.dv_document.specs.View.{view, items_view};
 ghost use Rattle.serde_json.specs.Find.{as_array, as_str, get};
-ghost use Rattle.dv_forms.specs.Wants.{key_want, keys_in, member_want};
+ghost use Rattle.dv_forms.specs.Wants.{want_for, key_want, keys_in, member_want};
 ghost use Rattle.dv_questions.specs.Asking.{all_suit, call_suits, each_item, each_member};
 ghost use Rattle.dv_forms.specs.declared.want.Want.TheVariants.{Keyed as in_want};
 ghost use Rattle.dv_questions.specs.Asking.{if_there, in_parts, is_scalar, keys_suit, name_suits};
@@ -13,7 +13,7 @@ ghost use Rattle.dv_questions.specs.Questions.{asked_by};
 use crate::question::Question;
 use dv_document::places::{Elements, Json};
 use dv_document::value::Kind;
-use dv_forms::want::{CallKind, Keyed, Leaf, Object, Want, member_want};
+use dv_forms::want::{CallKind, Keyed, Leaf, Object, Want, member_want, want_for};
 use dv_forms::words::form_of;
 
 fn leaf_suits(question: &Question<'_>, leaf: Leaf, json: Json<'_>) -> bool
@@ -112,7 +112,8 @@ fn is_scalar(json: Json<'_>) -> bool
 #[tactic(auto, using(crate::proofs::Members::scalar_suits))]
 fn member_suits(question: &Question<'_>, levels: u32, json: Json<'_>) -> bool
     ensures { result
-        ≡ all_suit (asked_by question.now) levels (member_want (view json.entry)) (view json.entry) }
+        ≡ all_suit (asked_by question.now) levels (member_want (view json.entry))
+        (view json.entry) }
 {
     if is_scalar(json) {
         return true;
@@ -152,7 +153,8 @@ fn each_item(question: &Question<'_>, levels: u32, want: Want, items: Elements<'
 #[cycle(ask)]
 #[tactic(auto, unfolding(crate::specs::Asking::all_suit))]
 fn argument_suits(question: &Question<'_>, levels: u32, want: Want, json: Json<'_>) -> bool
-    ensures { result ≡ all_suit (asked_by question.now) levels want (view json.entry) }
+    ensures { result ≡ all_suit (asked_by question.now) levels
+        (want_for want (view json.entry)) (view json.entry) }
 {
     if levels == 0 {
         return true;
@@ -160,12 +162,10 @@ fn argument_suits(question: &Question<'_>, levels: u32, want: Want, json: Json<'
     match want {
         Want::Leaf(leaf) => leaf_suits(question, leaf, json),
         Want::Other(_) => true,
-        Want::Call(_)
-        | Want::Pair(_)
-        | Want::Keyed(_)
-        | Want::Array(_)
-        | Want::Word(_)
-        | Want::Value => all_suit(question, levels, want, json),
+        Want::Array(_) => all_suit(question, levels, want_for(want, json), json),
+        Want::Call(_) | Want::Pair(_) | Want::Keyed(_) | Want::Word(_) | Want::Value => {
+            all_suit(question, levels, want, json)
+        }
     }
 }
 

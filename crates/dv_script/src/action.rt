@@ -93,9 +93,11 @@ pub enum Action {
     ResetCall(Text, u64),
     /// Delays the delayed call by so many ticks more, at most 10^12 (Twisted: `DelayedCall.delay`).
     DelayCall(Text, u64),
-    /// Makes a loop and, named second, its Deferred; it performs the body each so many ticks, from
-    /// 1 to 10^12, and at once where that is asked for (Twisted: `LoopingCall.start`).
-    Loop(Text, Text, u64, bool, Boxed<Body>),
+    /// Makes a loop and, named second, its Deferred; it performs a body each so many ticks, from 1
+    /// to 10^12, and at once where that is asked for (Twisted: `LoopingCall.start`). Its first turn
+    /// performs the body, those after it perform the bodies of the list in order, and the turns
+    /// after these its last body.
+    Loop(Text, Text, u64, bool, Boxed<Body>, Items<Body>),
     /// Stops the loop (Twisted: `LoopingCall.stop`).
     StopLoop(Text),
     /// Sets the most steps that each tick has from the next one on, from 1 to 1,000 (Twisted:

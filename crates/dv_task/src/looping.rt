@@ -13,7 +13,7 @@ use dv_frames::maybe::perform_for;
 use dv_frames::turn::Turn;
 use dv_journal::deferred_id::DeferredId;
 use dv_journal::entry::Entry;
-use dv_script::lent::{BodyRef, TextRef};
+use dv_script::lent::{BodiesRef, BodyRef, TextRef};
 use dv_value::text::Text;
 use dv_value::value::Value;
 use dv_world::world::looping::not_running;
@@ -29,15 +29,16 @@ pub fn start_loop<'s>(
     interval: u64,
     at_once: bool,
     body: BodyRef<'s>,
+    bodies: BodiesRef<'s>,
 ) -> Result<(), AllocError>
     requires bounded { Bounded turn.old.world }
     requires done { turn.old.performed ≡ Done }
-    ensures { OnOk result
-        (turn.new ≡ after (page.loop name.entry of.entry interval at_once body.entry) turn.old) }
+    ensures { OnOk result (turn.new
+        ≡ after (page.loop name.entry of.entry interval at_once body.entry bodies.entry) turn.old) }
 {
     let id = turn.world.next_id();
     turn.world.make(Some(of), None)?;
-    begin_loop(turn, name, id, interval, at_once, body)
+    begin_loop(turn, name, id, interval, at_once, body, bodies)
 }
 
 /// Makes a loop whose Deferred this is, and takes its first turn at once or schedules it.
@@ -48,16 +49,17 @@ fn begin_loop<'s>(
     interval: u64,
     at_once: bool,
     body: BodyRef<'s>,
+    bodies: BodiesRef<'s>,
 ) -> Result<(), AllocError>
     requires done { turn.old.performed ≡ Done }
-    ensures { OnOk result
-        (turn.new ≡ after (page.begin_loop name.entry of interval at_once body.entry) turn.old) }
+    ensures { OnOk result (turn.new
+        ≡ after (page.begin_loop name.entry of interval at_once body.entry bodies.entry) turn.old) }
 {
     let shown = name.as_str();
     let body = body.get();
     let looping = turn
         .world
-        .make_loop(name, of, interval, BodyRef::new(body))?;
+        .make_loop(name, of, interval, BodyRef::new(body), bodies)?;
     if at_once {
         begin_at_once(turn, looping, shown, BodyRef::new(body))
     } else {
@@ -77,10 +79,11 @@ fn begin_at_once<'s>(
         (turn.new ≡ after (page.first_turn name.now looping body.entry) turn.old) }
 {
     turn.world.tell(Entry::Turn(Text::of(turn.alloc, name)?))?;
+    turn.world.begin_turn(looping);
     perform_for(turn, Purpose::Turning(looping), body)
 }
 
-/// The body of a loop is to be performed, as a turn of it.
+/// The body of a loop's next turn is to be performed, and the turn after that has the next one.
 pub fn take_turn(turn: &mut Turn<'_>, looping: LoopId) -> Result<(), AllocError>
     requires done { turn.old.performed ≡ Done }
     ensures { OnOk result (turn.new ≡ after (page.take_turn looping) turn.old) }
@@ -89,6 +92,7 @@ pub fn take_turn(turn: &mut Turn<'_>, looping: LoopId) -> Result<(), AllocError>
         None => Ok(()),
         Some(found) => {
             let body = BodyRef::new(found.body.get());
+            turn.world.begin_turn(looping);
             perform_for(turn, Purpose::Turning(looping), body)
         }
     }

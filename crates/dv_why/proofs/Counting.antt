@@ -1,12 +1,14 @@
 -- Wants and items, counted.
 use Rattle.std.proofs.Common.{◌≡◌, ◌≢◌, ℕ, zero, suc, ◌-◌, ◌<◌, ◌≤◌, List, [], ◌∷◌, length, get_or, Some, None, refl}
-use Rattle.std.proofs.Common.{ap, arith}
+use Rattle.std.proofs.Common.{ap, arith, option_and_then, option_map}
 use Rattle.serde_json.specs.Data.{Data}
+use Rattle.serde_json.specs.Find.{at}
 use Rattle.serde_json.specs.View.{items_view}
 use Rattle.serde_json.specs.declared.value.Value.{Value}
 use Rattle.dv_document.specs.View.{count}
 use Rattle.dv_forms.specs.declared.want.Want.{Want}
 use Rattle.dv_forms.specs.declared.want.CallKind.{CallKind}
+use Rattle.dv_forms.specs.Wants.{want_for}
 use Rattle.dv_why.specs.Places.{argument_want, call_want, nth}
 
 -- the item of a number below the length
@@ -22,9 +24,12 @@ nth_past (w ∷ ws) zero h = absurd (omega arith)
 nth_past (w ∷ ws) (suc n) h = nth_past ws n (omega arith)
 
 -- a part of a call after its word is an argument
-pub after_word : (c : CallKind) (d : Data) (n : ℕ) → n ≢ 0 → argument_want c d (n - 1) ≡ call_want c d n
+pub after_word : (c : CallKind) (d : Data) (n : ℕ) → n ≢ 0
+    → option_and_then (λ w. option_map (want_for w) (at n d)) (argument_want c d (n - 1)) ≡ call_want c d n
 after_word c d zero h = absurd (h refl)
-after_word c d (suc n) h = let e : suc n - 1 ≡ n = omega arith in ap (λ (k : ℕ). argument_want c d k) e
+after_word c d (suc n) h =
+    let e : suc n - 1 ≡ n = omega arith in
+    ap (λ (k : ℕ). option_and_then (λ w. option_map (want_for w) (at (suc n) d)) (argument_want c d k)) e
 
 -- there are as many items as values
 pub count_items : (vs : List Value) → count (items_view vs) ≡ length vs

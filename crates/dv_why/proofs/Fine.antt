@@ -20,7 +20,7 @@ use Rattle.dv_forms.specs.declared.want.Want.TheVariants as want
 use Rattle.dv_forms.specs.declared.want.CallKind.{CallKind}
 use Rattle.dv_forms.specs.declared.want.Item.{Item}
 use Rattle.dv_why.specs.declared.question.Question.TheVariants as question
-use Rattle.dv_forms.specs.Wants.{item_want}
+use Rattle.dv_forms.specs.Wants.{item_want, want_for}
 use Rattle.dv_forms.specs.Words.{may_stand, wants_of}
 use Rattle.dv_why.specs.Places.{nth, part_want, value_want}
 use Rattle.dv_document.specs.View.{count}
@@ -177,44 +177,52 @@ list_of v n i Is one d h =
 -- ---- arguments
 
 -- the arguments are fine, one for one
-abbrev pub AreFine : ℕ → ℕ → List Want → Items → Type 0
-AreFine v n [] no_items = ⊤
-AreFine v n [] (item d ds) = ⊥
-AreFine v n (w ∷ ws) no_items = ⊥
-AreFine v n (w ∷ ws) (item d ds) = IsFine v n w d × AreFine v n ws ds
+abbrev pub EachFine : ℕ → ℕ → List Want → Items → Type 0
+EachFine v n [] no_items = ⊤
+EachFine v n [] (item d ds) = ⊥
+EachFine v n (w ∷ ws) no_items = ⊥
+EachFine v n (w ∷ ws) (item d ds) = IsFine v n (want_for w d) d × EachFine v n ws ds
+
+-- the same, as a type of its own
+pub record AreFine (v n : ℕ) (ws : List Want) (ds : Items) : Type 0 where
+  pub each : EachFine v n ws ds
 
 pub are_fine : (v n : ℕ) (ws : List Want) (ds : Items) → length ws ≡ count ds
-    → ((k : ℕ) (u : Want) (e : Data) → nth ws k ≡ Some u → get_item k ds ≡ Some e → IsFine v n u e) → AreFine v n ws ds
-are_fine v n [] no_items many h = tt
+    → ((k : ℕ) (u : Want) (e : Data) → nth ws k ≡ Some u → get_item k ds ≡ Some e → IsFine v n (want_for u e) e)
+    → AreFine v n ws ds
+are_fine v n [] no_items many h = record { each = tt }
 are_fine v n [] (item d ds) many h = absurd (omega (arith, many))
 are_fine v n (w ∷ ws) no_items many h = absurd (omega (arith, many))
 are_fine v n (w ∷ ws) (item d ds) many h =
-    (h 0 w d refl refl, are_fine v n ws ds (omega (arith, many)) (λ k u e wants is. h (suc k) u e wants is))
+    let rest = are_fine v n ws ds (omega (arith, many)) (λ k u e wants is. h (suc k) u e wants is) in
+    record { each = (h 0 w d refl refl, rest.each) }
 
 pub no_args : (v n : ℕ) (ds : Items) → AreFine v n [] ds → ds ≡ no_items
 no_args v n no_items h = refl
-no_args v n (item d ds) h = absurd h
+no_args v n (item d ds) h = absurd h.each
 
 pub record IsOne (v n : ℕ) (w : Want) (ds : Items) : Type 0 where
   pub a : Data
   pub items : ds ≡ item a no_items
-  pub fine : IsFine v n w a
+  pub fine : IsFine v n (want_for w a) a
 
 pub one_arg : (v n : ℕ) (w : Want) (ds : Items) → AreFine v n (w ∷ []) ds → IsOne v n w ds
-one_arg v n w no_items h = absurd h
-one_arg v n w (item d ds) h = record { a = d; items = ap (item d) (no_args v n ds h.1); fine = h.0 }
+one_arg v n w no_items h = absurd h.each
+one_arg v n w (item d ds) h =
+    record { a = d; items = ap (item d) (no_args v n ds (record { each = h.each.1 })); fine = h.each.0 }
 
 -- the first argument, and the rest
 pub record IsMore (v n : ℕ) (w : Want) (ws : List Want) (ds : Items) : Type 0 where
   pub a : Data
   pub rest : Items
   pub items : ds ≡ item a rest
-  pub fine : IsFine v n w a
+  pub fine : IsFine v n (want_for w a) a
   pub others : AreFine v n ws rest
 
 pub more_args : (v n : ℕ) (w : Want) (ws : List Want) (ds : Items) → AreFine v n (w ∷ ws) ds → IsMore v n w ws ds
-more_args v n w ws no_items h = absurd h
-more_args v n w ws (item d ds) h = record { a = d; rest = ds; items = refl; fine = h.0; others = h.1 }
+more_args v n w ws no_items h = absurd h.each
+more_args v n w ws (item d ds) h =
+    record { a = d; rest = ds; items = refl; fine = h.each.0; others = record { each = h.each.1 } }
 
 -- ---- calls
 
@@ -245,7 +253,8 @@ open_call v n c (array (item (string word) rest)) h parts =
       plain = plain;
       wants = form.0;
       form = form.1;
-      args = are_fine v n form.0 rest many (λ k u e wants is. parts (suc k) u e (rw (form.1) wants) is);
+      args = are_fine v n form.0 rest many
+          (λ k u e wants is. parts (suc k) (want_for u e) e (rw (form.1, wants, is) refl) is);
     }
 open_call v n c (array (item first rest)) h parts =
     let plain : word_fits v c (as_str first) ≡ true = fits_fine (parts 0 (want.Word c) first refl refl) in cc

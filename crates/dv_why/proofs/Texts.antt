@@ -7,12 +7,14 @@ use Rattle.dv_forms.specs.declared.want.Want.{Want}
 use Rattle.dv_forms.specs.declared.want.Want.TheVariants as want
 use Rattle.dv_forms.specs.declared.want.Leaf.{Leaf}
 use Rattle.dv_forms.specs.declared.want.CallKind.{CallKind}
+use Rattle.dv_forms.specs.declared.want.PairKind.{PairKind}
+use Rattle.dv_forms.specs.declared.want.PairKind.TheVariants as pair
 use Rattle.dv_forms.specs.declared.want.Leaf.TheVariants as leaf_of
 use Rattle.dv_forms.specs.declared.want.Object.TheVariants as object_of
 use Rattle.dv_forms.specs.declared.want.Keyed.{Keyed}
 use Rattle.dv_forms.specs.declared.want.Keyed.TheVariants as keyed
 use Rattle.dv_forms.specs.Parts.{call_at}
-use Rattle.dv_forms.specs.Wants.{item_want, key_want, keys_in, member_want, pair_wants}
+use Rattle.dv_forms.specs.Wants.{item_want, key_want, keys_in, member_want, pair_wants, want_for}
 use Rattle.dv_forms.specs.Words.{wants_of}
 use Rattle.dv_questions.specs.Questions.{Asked}
 use Rattle.dv_document.specs.View.{count}
@@ -23,6 +25,7 @@ use Rattle.dv_why.specs.declared.question.Question.{Question}
 use Rattle.dv_why.specs.Places.{nth}
 use Rattle.dv_why.specs.Fits.{suits}
 use Rattle.dv_why.specs.AllSuit.{AllSuit}
+use Rattle.dv_grammar.proofs.Steps.{some_injective}
 use Rattle.dv_why.proofs.Parts.{both, here, part, value}
 
 -- a text or an object that answers one question well answers the other well
@@ -76,7 +79,7 @@ members_good f no_items k = refl
 members_good f (item d ds) k = both (k 0 d refl) (members_good f ds (λ n e is. k (suc n) e is))
 
 ones_good : (f : Want → Data → Bool) (ws : List Want) (ds : Items)
-    → ((n : ℕ) (v : Want) (e : Data) → nth ws n ≡ Some v → get_item n ds ≡ Some e → f v e ≡ true)
+    → ((n : ℕ) (v : Want) (e : Data) → nth ws n ≡ Some v → get_item n ds ≡ Some e → f (want_for v e) e ≡ true)
     → one_for_one f ws ds ≡ true
 ones_good f [] ds k = refl
 ones_good f (w ∷ ws) no_items k = refl
@@ -84,7 +87,7 @@ ones_good f (w ∷ ws) (item d ds) k =
     both (k 0 w d refl refl) (ones_good f ws ds (λ n v e wants is. k (suc n) v e wants is))
 
 arguments_good : (f : Want → Data → Bool) (o : Option (List Want)) (ds : Items) → ((n : ℕ) (v : Want) (e : Data)
-    → option_and_then (λ ws. nth ws n) o ≡ Some v → get_item n ds ≡ Some e → f v e ≡ true)
+    → option_and_then (λ ws. nth ws n) o ≡ Some v → get_item n ds ≡ Some e → f (want_for v e) e ≡ true)
     → arguments_suit f o ds ≡ true
 arguments_good f None ds k = refl
 arguments_good f (Some ws) ds k = ones_good f ws ds k
@@ -95,7 +98,8 @@ parts_good : {q : Question} {a : Asked} → Tells q a → (f : Want → Data →
 unfolding call_at
 parts_good t f k c x ds h =
     both (t.word c x (here (part 0 h refl refl)))
-    (arguments_good f (wants_of c x (count ds)) ds (λ n v e wants is. k v e (part (suc n) h wants is)))
+    (arguments_good f (wants_of c x (count ds)) ds
+    (λ n v e wants is. k (want_for v e) e (part (suc n) h (rw (wants, is) refl) is)))
 
 call_good : {q : Question} {a : Asked} → Tells q a → (f : Want → Data → Bool) → Goods q f → (c : CallKind) (ds : Items)
     → AllSuit q (want.Call c) (array ds) → call_suits a f c ds ≡ true
@@ -137,6 +141,21 @@ name_good t o (number n) h = refl
 name_good t o (array ds) h = refl
 name_good t o (object ms) h = refl
 
+-- no part of a pair is an array or a body
+pair_same : (p : PairKind) (n : ℕ) (v : Want) (e : Data) → nth (pair_wants p) n ≡ Some v → want_for v e ≡ v
+pair_same pair.Declaration zero v e h = rw (← some_injective h) refl
+pair_same pair.Declaration (suc zero) v e h = rw (← some_injective h) refl
+pair_same pair.Declaration (suc (suc n)) v e h = cc
+pair_same pair.Pool zero v e h = rw (← some_injective h) refl
+pair_same pair.Pool (suc zero) v e h = rw (← some_injective h) refl
+pair_same pair.Pool (suc (suc n)) v e h = cc
+pair_same pair.Body zero v e h = rw (← some_injective h) refl
+pair_same pair.Body (suc zero) v e h = rw (← some_injective h) refl
+pair_same pair.Body (suc (suc n)) v e h = cc
+pair_same pair.Cooperator zero v e h = rw (← some_injective h) refl
+pair_same pair.Cooperator (suc zero) v e h = rw (← some_injective h) refl
+pair_same pair.Cooperator (suc (suc n)) v e h = cc
+
 all_good : {q : Question} {a : Asked} → Tells q a → (f : Want → Data → Bool) → Goods q f → (w : Want) (d : Data)
     → AllSuit q w d → in_parts a f w d ≡ true
 all_good t f k (want.Leaf l) d h = leaf_good t l d h
@@ -147,7 +166,8 @@ all_good {a = a} t f k (want.Call c) d h =
     array_good (call_suits a f c) d (λ ds is. call_good t f k c ds (array_is is h))
 all_good t f k (want.Pair p) d h =
     array_good (one_for_one f (pair_wants p)) d
-    (λ ds is. ones_good f (pair_wants p) ds (λ n v e wants here. k v e (part n (array_is is h) wants here)))
+    (λ ds is. ones_good f (pair_wants p) ds (λ n v e wants here.
+    rw (pair_same p n v e wants) (k v e (part n (array_is is h) wants here))))
 all_good t f k (want.Keyed o) d h =
     both (t.object o d (here h)) (both (name_good t o d h) (keys_good f k o d h (keys_in o)))
 all_good t f k (want.Array i) d h =

@@ -9,7 +9,7 @@ use Rattle.dv_why.specs.declared.misfit.Step.TheVariants as step
 use Rattle.dv_forms.specs.declared.want.Want.{Want}
 use Rattle.dv_forms.specs.declared.want.Want.TheVariants as want
 use Rattle.dv_forms.specs.declared.want.CallKind.{CallKind}
-use Rattle.dv_forms.specs.Wants.{item_want, key_want, member_want, pair_wants}
+use Rattle.dv_forms.specs.Wants.{item_want, key_want, member_want, pair_wants, want_for}
 use Rattle.dv_forms.specs.Words.{wants_of}
 use Rattle.dv_document.specs.View.{count}
 
@@ -47,7 +47,7 @@ nth [] n = None
 nth (w ∷ ws) zero = Some w
 nth (w ∷ ws) (suc n) = nth ws n
 
--- what the place of an argument asks for
+-- what the place of an argument asks for, by the form of the word
 abbrev pub argument_want : CallKind → Data → ℕ → Option Want
 argument_want c d n =
     option_and_then (λ call. option_and_then (λ ws. nth ws n) (wants_of c call.0 (count call.1))) (call_at d)
@@ -55,7 +55,7 @@ argument_want c d n =
 -- what the place of a part of a call asks for: first its word
 abbrev pub call_want : CallKind → Data → ℕ → Option Want
 call_want c d zero = Some (want.Word c)
-call_want c d (suc n) = argument_want c d n
+call_want c d (suc n) = option_and_then (λ w. option_map (want_for w) (at (suc n) d)) (argument_want c d n)
 
 -- what the place of an item of an array asks for, by what the array's place does
 abbrev pub part_want : Want → Data → ℕ → Option Want

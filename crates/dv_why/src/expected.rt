@@ -245,7 +245,7 @@ fn keyed_text(version: u32, keyed: Keyed) -> &'static str {
         Keyed::Script(_) => "a script: an object",
         Keyed::Cooperator => "a cooperator: an object of the keys units and delay",
         Keyed::Body(since) => if version < since {
-            "nothing: the body of a time-out stands here from version 3 on"
+            "nothing: a body stands here from version 3 on"
         } else {
             body_text(version)
         },
@@ -269,6 +269,7 @@ fn array_text(item: Item) -> &'static str {
         Item::Place => "an array of places in lists, each an integer from 0 to 1000000",
         Item::NamedBody => "an array of named bodies [NAME,BODY]",
         Item::NamedCooperator => "an array of named cooperators [NAME,COOPERATOR]",
+        Item::Turn => "an array of bodies of turns, at least one",
     }
 }
 

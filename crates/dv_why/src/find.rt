@@ -1,6 +1,7 @@
 //! Finds the first part of a JSON value that answers a question badly.
 
-ghost use Rattle.std.specs.Prelude.{◌≡◌, ◌≤◌, ◌+◌, true, None, Some, IfOk, IfSome, option_map};
+ghost use Rattle.std.specs.Prelude.{◌≡◌, ◌≢◌, ◌≤◌, ◌+◌, ◌-◌, true, None, Some, IfOk, IfSome};
+ghost use Rattle.std.specs.Prelude.{option_and_then, option_map};
 ghost use Rattle.serde_json.specs.Data.{Data, depth};
 ghost use Rattle.serde_json.specs.Find.{at, get};
 ghost use Rattle.serde_json.specs.View.{view, members_view};
@@ -8,11 +9,11 @@ ghost use Rattle.dv_why.specs.AllSuit.{AllSuit, ItemsSuit, KnownSuit, OthersOf, 
 ghost use Rattle.dv_why.specs.Finds.{Finds};
 ghost use Rattle.dv_why.specs.Fits.{first_other, is_other, suits};
 ghost use Rattle.dv_why.specs.Places.{argument_want, call_want, nth, part_want};
-ghost use Rattle.dv_forms.specs.Wants.{key_want, member_want};
+ghost use Rattle.dv_forms.specs.Wants.{key_want, member_want, want_for};
 
 use crate::misfit::{Misfit, Step};
 use crate::question::{Question, suits};
-use crate::tree::{call_in, member_want};
+use crate::tree::{call_in, member_want, want_for};
 use dv_forms::want::{CallKind, Keyed, Want};
 use dv_forms::words::wants_of;
 use serde_json::{Map, Value as Json};
@@ -29,7 +30,7 @@ fn nth(wants: &[Want], number: usize) -> Option<Want>
     }
 }
 
-/// What the place of this argument of a call asks for.
+/// What the place of this argument of a call asks for, by the form of its word.
 #[tactic(auto, using(crate::proofs::Counting::count_items))]
 fn argument_of(call: CallKind, json: &Json, number: usize) -> Option<Want>
     ensures { result ≡ argument_want call (view json.now) number }
@@ -46,8 +47,19 @@ fn part_of_call(call: CallKind, json: &Json, number: usize) -> Option<Want>
     if number == 0 {
         Some(Want::Word(call))
     } else {
-        argument_of(call, json, number - 1)
+        argument_at(call, json, number)
     }
+}
+
+/// What the place of this part of a call asks for, which isn't its word, where this stands there.
+fn argument_at(call: CallKind, json: &Json, number: usize) -> Option<Want>
+    requires argument { number ≢ 0 }
+    ensures { result ≡ option_and_then (λ w. option_map (want_for w) (at number (view json.now)))
+        (argument_want call (view json.now) (number - 1)) }
+{
+    let want = argument_of(call, json, number - 1)?;
+    let argument = json.get(number)?;
+    Some(want_for(want, argument))
 }
 
 /// What the place of this member of an array of a value asks for.

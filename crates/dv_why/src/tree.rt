@@ -9,14 +9,15 @@ ghost use Rattle.dv_forms.specs.Forms.{is_first_error};
 ghost use Rattle.dv_forms.specs.Limits.{most_nodes};
 ghost use Rattle.dv_forms.specs.Parts.{call_at, number_at};
 ghost use Rattle.dv_forms.specs.Repeat.{repeat_at, times_at, with_items};
-ghost use Rattle.dv_forms.specs.Wants.{member_want};
+ghost use Rattle.dv_forms.specs.Wants.{array_or_body, has_items, member_want, want_for};
 ghost use Rattle.dv_forms.specs.declared.limits.TheConstants.{MOST_TIMES};
 ghost use Rattle.dv_reader.specs.Limits.{all_nodes};
 
 use dv_document::document::Document;
 use dv_document::room::Room;
 use dv_forms::limits::MOST_TIMES;
-use dv_forms::want::{Keyed, Want};
+use dv_forms::versions::FIRST_VERSION;
+use dv_forms::want::{Item, Keyed, Want};
 use dv_reader::limits::has_few_nodes as has_few_nodes_in;
 use serde_json::Value as Json;
 use std::alloc::{AllocError, Global};
@@ -115,6 +116,61 @@ pub fn member_want(json: &Json) -> Want
         Json::Null | Json::Bool(_) | Json::Number(_) | Json::String(_) | Json::Array(_) =>
             Want::Value,
         Json::Object(_) => Want::Keyed(Keyed::Failure),
+    }
+}
+
+/// Whether this is an array of one item or more.
+fn has_items(json: &Json) -> bool
+    ensures { result ≡ has_items (view json.now) }
+{
+    match json {
+        Json::Array(items) => items.as_slice().split_first().is_some(),
+        Json::Null | Json::Bool(_) | Json::Number(_) | Json::String(_) | Json::Object(_) => false,
+    }
+}
+
+/// What the place of an array asks for where this stands: where the turns of a loop may have bodies
+/// of their own, one body for all is no array.
+fn array_or_body(item: Item, json: &Json) -> Want
+    ensures { result ≡ array_or_body item (view json.now) }
+{
+    match item {
+        Item::Turn => if has_items(json) {
+            Want::Array(Item::Turn)
+        } else {
+            Want::Keyed(Keyed::Body(FIRST_VERSION))
+        },
+        Item::Value
+        | Item::Event
+        | Item::Action
+        | Item::Statement
+        | Item::Body
+        | Item::Caller
+        | Item::Deferred
+        | Item::Class
+        | Item::ListFlag
+        | Item::GatherFlag
+        | Item::Declaration
+        | Item::Pool
+        | Item::Place
+        | Item::NamedBody
+        | Item::NamedCooperator => Want::Array(item),
+    }
+}
+
+/// What an argument has to be where this stands.
+pub fn want_for(want: Want, json: &Json) -> Want
+    ensures { result ≡ want_for want (view json.now) }
+{
+    match want {
+        Want::Array(item) => array_or_body(item, json),
+        Want::Leaf(_)
+        | Want::Value
+        | Want::Call(_)
+        | Want::Pair(_)
+        | Want::Keyed(_)
+        | Want::Word(_)
+        | Want::Other(_) => want,
     }
 }
 

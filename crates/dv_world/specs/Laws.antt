@@ -1,11 +1,17 @@
--- What holds of every task.
+-- What holds of every task, and of the turns of every loop.
 use Rattle.std.specs.Prelude.{◌≡◌, ℕ, List, [], Option, Some, None, slice_get}
 use Rattle.std.specs.Option.{option_map_or}
 use Rattle.dv_script.specs.declared.body.Body.{Body}
 use Rattle.dv_world.specs.World.{World, new_task, new_task_in, take_step, pause_task, resume_task, hold_task}
 use Rattle.dv_world.specs.World.{await_task, end_task}
+use Rattle.dv_objects.specs.Looping.{after_turns, body_or_last}
+use Rattle.dv_objects.specs.declared.looping_call.LoopingCall.{LoopingCall}
 use Rattle.dv_objects.specs.declared.task.Task.{Task}
 use Rattle.dv_objects.specs.declared.task.TaskEnd.{TaskEnd}
+
+-- each turn of a loop has its body: turn k the k-th, from 0 on, and from the last one on that
+abbrev pub TurnsHaveTheirBodies : Type 0
+TurnsHaveTheirBodies = (turn : ℕ) (x : LoopingCall) → (after_turns turn x).body ≡ body_or_last turn x.body x.bodies
 
 -- how task t has ended, if it has
 abbrev pub end_in : ℕ → List Task → Option TaskEnd

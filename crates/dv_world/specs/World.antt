@@ -47,12 +47,13 @@ use Rattle.dv_store.specs.declared.store.Fired.TheVariants.{Set, Swallowed}
 use Rattle.dv_store.specs.declared.store.Step.{Step}
 use Rattle.dv_store.specs.declared.store.Step.TheVariants.{Nothing}
 use Rattle.dv_objects.specs.Cooperator.{Cooperator, Cooperators, changed, cooperator_named, halted, tick_of}
-use Rattle.dv_objects.specs.Cooperator.{turn_in, with_new_task, with_step, with_pause, with_resume, with_end, with_units}
+use Rattle.dv_objects.specs.Cooperator.{turn_in, with_new_task, with_step, with_pause, with_resume, with_end}
+use Rattle.dv_objects.specs.Cooperator.{with_units}
 use Rattle.dv_objects.specs.Cooperator.{with_waiting}
 use Rattle.dv_objects.specs.Cooperator.{result_of, unended, wants_tick, idle_tick}
 use Rattle.dv_inline.specs.Position.{Position}
 use Rattle.dv_objects.specs.Inlines.{resume_at, end_adding, now_waiting, awaited_by}
-use Rattle.dv_objects.specs.Looping.{next_due, with_turn, with_stopped, with_ended}
+use Rattle.dv_objects.specs.Looping.{next_due, with_turn, with_turn_begun, with_stopped, with_ended}
 use Rattle.dv_objects.specs.Names.{number_of}
 use Rattle.dv_objects.specs.Objects.{Objects, no_objects, naming_where, with_list, with_new_call, with_delivery}
 use Rattle.dv_objects.specs.Objects.{with_timer, with_ended_call, with_moved_call, with_time, with_lock, lock_changed}
@@ -85,8 +86,8 @@ body_named name bodies = find (λ body. bytes_eq body.name name) bodies
 abbrev pub Records : Type 0
 Records = List (Record Pair Canceller)
 
--- what a run has made so far and its journal; once an entry didn't fit, or a Deferred wasn't as the script expects, it has
--- stopped
+-- what a run has made so far and its journal; once an entry didn't fit, or a Deferred wasn't as the script expects, it
+-- has stopped
 pub record World : Type 0 where
   pub classes : List Class
   pub declared : List NamedBody
@@ -455,6 +456,10 @@ turn_scheduled l (Some x) w = aside (entry.LaterLoop x.name (next_due x w.object
 
 abbrev pub schedule_turn : ℕ → World → World
 schedule_turn l w = turn_scheduled l (slice_get w.objects.loops l) w
+
+-- a turn of a loop has begun, which isn't logged: from now on its next turn performs the next of its bodies
+abbrev pub begin_turn : ℕ → World → World
+begin_turn l w = arrange (λ objects. with_turn_begun l (slice_get objects.loops l) objects) w
 
 -- the loop that is found is stopped, and its next turn, where it is scheduled, is dropped
 abbrev pub loop_stopped : ℕ → Option LoopingCall → World → World

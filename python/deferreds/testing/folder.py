@@ -9,6 +9,7 @@ from pathlib import Path
 from typing import Dict, List, Mapping, NamedTuple
 
 from ..files import read_plain, write_whole
+from ..view.names import PLACES, WHOLE_JOURNAL
 
 #: the list of what a run has left, which the next run reads to remove that
 LIST = "deferreds-recordings.txt"
@@ -17,7 +18,7 @@ LIST = "deferreds-recordings.txt"
 HEADER = "# What deferreds has recorded of tests. The next run removes the files of each name in this list."
 
 #: what the files of a recording end with
-SUFFIXES = (".json", ".places.json", ".journal", ".html")
+SUFFIXES = (".json", PLACES, ".journal", WHOLE_JOURNAL, ".html")
 
 _MOST_NAME = 120
 

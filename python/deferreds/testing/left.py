@@ -11,7 +11,7 @@ from ..twisted.telling import Advance, Record, Thing
 from ..view.pages import page_of
 from ..view.findings import Finding, Kind, Severity
 from ..view.run import Run, run_of
-from ..view.names import PLACES
+from ..view.names import PLACES, WHOLE_JOURNAL
 from ..view.sources import Source
 from ..view.terminal import Terminal
 
@@ -32,10 +32,12 @@ def _is_settled(record: Record) -> bool:
 
 
 class Recording(NamedTuple):
-    """A test's recording: what it has left behind, why it isn't a script if it isn't, and its files by their suffixes."""
+    """A test's recording: what it has left behind, why no script has all of it if none has, what is recorded in it as what it is made
+    of, and its files by their suffixes."""
 
     left: List[str]
     problem: Optional[str]
+    plainly: List[str]
     files: Dict[str, str]
 
     def told(self, failed: bool) -> str:
@@ -47,7 +49,7 @@ class Recording(NamedTuple):
             parts.append(f"left behind: {', '.join(shown)}")
         if self.problem is not None:
             parts.append(f"a script can't say this: {self.problem}")
-        return "; ".join(parts)
+        return "; ".join(parts + self.plainly)
 
 
 def recording_of(recorder: Recorder, title: str) -> Recording:
@@ -61,9 +63,11 @@ def recording_of(recorder: Recorder, title: str) -> Recording:
     files = {".journal": journal, ".html": page_of(source, journal, run)}
     if places is not None:
         files[PLACES] = places
-    if problem is None:
-        files[".json"] = f"{said.text}\n"
-    return Recording(_left(run, said), problem, files)
+    if said.script is not None:
+        files.update({".json": f"{said.text}\n", ".journal": said.output})
+        if not said.is_whole:
+            files[WHOLE_JOURNAL] = journal
+    return Recording(_left(run, said), problem, [plainly.text for plainly in said.plainly], files)
 
 
 def _problem(said: Said) -> Optional[str]:
@@ -73,7 +77,14 @@ def _problem(said: Said) -> Optional[str]:
     first = said.problems[0]
     more = len(dict.fromkeys(said.problems)) - 1
     at = f", at {first.place}" if first.place else ""
-    return f"{first.reason}{at}{f', and {more} more' if more else ''}"
+    return f"{first.reason}{at}{f', and {more} more' if more else ''}{_beginning(said)}"
+
+
+def _beginning(said: Said) -> str:
+    """Of how many events the script is, in words, if it isn't of all."""
+    if said.script is None or said.events == len(said.actions):
+        return ""
+    return f"; the script is of the first {said.events:,} of {len(said.actions):,} events"
 
 
 def _left(run: Run, said: Said) -> List[str]:

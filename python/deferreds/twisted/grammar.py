@@ -67,6 +67,9 @@ UNITS = _numbers(_of_key("cooperator", "units"))
 PLACES = _numbers(_of_word("throw", 0)["of"])
 WORKERS = _numbers(_of_key("script", "pools")["of"]["parts"][1])
 
+#: the first version in which the turns of a loop may have bodies of their own
+TURNS_SINCE: int = _of_word("loop", 4)["since"]
+
 #: the first version in which a member of an array of a value may be a failure
 FAILURES_SINCE = min(key.since for key in LANGUAGE.keys_of("failure"))
 #: the keys of a failure, and those of one of FirstError, which has another in it
@@ -98,6 +101,7 @@ class Kind(enum.Enum):
     VALUE = "a value"
     BODY = "a body"
     BODIES = "an array of bodies"
+    TURNS = "a body for all turns, or an array of one or more, which the turns have in order"
     STATEMENT = "a statement"
     STATEMENTS = "an array of statements"
     CLASS = "a class"
@@ -162,6 +166,7 @@ _PLAIN: Dict[str, Kind] = {
     "value": Kind.VALUE,
     "boolean": Kind.FLAG,
     "bound": Kind.BOUND,
+    "turns": Kind.TURNS,
 }
 #: the kinds of objects that an argument may be
 _OBJECTS: Dict[str, Kind] = {"body": Kind.BODY, "failure": Kind.FAILURE}

@@ -4,7 +4,7 @@ from __future__ import annotations
 
 import json
 import random
-from typing import Any, Callable, Dict, List, Optional
+from typing import Any, Callable, Dict, List, Optional, Union
 
 from . import grammar
 from .grammar import Kind
@@ -232,6 +232,7 @@ class Scripts:
             Kind.VALUE: lambda depth: self._value(depth),
             Kind.BODY: self._body,
             Kind.BODIES: self._bodies,
+            Kind.TURNS: self._turns,
             Kind.STATEMENTS: self._statements,
             Kind.CLASS: lambda depth: self._random.choice(_CLASSES),
             Kind.CLASSES: lambda depth: self._several(lambda: self._random.choice(_CLASSES)),
@@ -304,6 +305,11 @@ class Scripts:
     def _bodies(self, depth: int) -> List[grammar.Body]:
         return [self._body(depth) for _ in range(self._random.randint(0, 4))]
 
+    def _turns(self, depth: int) -> Union[grammar.Body, List[grammar.Body]]:
+        if self._is_third and self._one_in(2):
+            return [self._body(depth) for _ in range(self._random.randint(1, 3))]
+        return self._body(depth)
+
     def _end(self, table: Dict[str, List[grammar.Arguments]], depth: int) -> List[Any]:
         words = [word for word in table if grammar.SINCE.get(word, 1) <= self._version_of]
         if "wait" in words and self._one_in(3):
@@ -333,5 +339,5 @@ class Scripts:
 
 def _holds_bodies(word: str) -> bool:
     """Whether an action of this word always holds bodies, so that they could nest without end."""
-    inner = {Kind.BODY, Kind.BODIES, Kind.STATEMENTS}
+    inner = {Kind.BODY, Kind.BODIES, Kind.TURNS, Kind.STATEMENTS}
     return all(inner & set(arguments) for arguments in grammar.ACTIONS[word])

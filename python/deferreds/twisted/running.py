@@ -7,7 +7,8 @@ import sys
 import threading
 import warnings
 from bisect import bisect_left
-from typing import Any, Callable, Dict, Generator, Iterator, List, NoReturn, Optional, Sequence, Tuple, Union
+from collections import deque
+from typing import Any, Callable, Deque, Dict, Generator, Iterator, List, NoReturn, Optional, Sequence, Tuple, Union
 
 from twisted.internet import defer, task, threads
 from twisted.internet.defer import Deferred
@@ -617,12 +618,16 @@ class Player:
 
     def _loop(self, action: List[Any], here: Optional[Deferred[Any]]) -> None:
         _, name, deferred, interval, now, body = action
-        loop = task.LoopingCall(self._body, body)
+        loop = task.LoopingCall(self._turn, deque(body if isinstance(body, list) else [body]))
         setattr(loop, "clock", self.clock)
         self.teller.name_next(name)
         self._naming(deferred)
         self._making("loop", name, loop)
         loop.start(interval, now)
+
+    def _turn(self, bodies: Deque[grammar.Body]) -> Any:
+        """A turn of a loop, whose next one has the next body. The last one stays."""
+        return self._body(bodies.popleft() if len(bodies) > 1 else bodies[0])
 
     def _stop_loop(self, action: List[Any], here: Optional[Deferred[Any]]) -> None:
         self._thing("loop", action[1]).stop()

@@ -311,6 +311,8 @@ class _Shape:
             self._body(value)
         elif kind is Kind.BODIES:
             self._bodies(value)
+        elif kind is Kind.TURNS:
+            self._turns(value)
         elif kind is Kind.STATEMENTS:
             for statement in self._array(value):
                 self._said(statement, grammar.STATEMENTS, grammar.STATEMENTS_SINCE)
@@ -345,6 +347,13 @@ class _Shape:
     def _bodies(self, value: Any) -> None:
         for body in self._array(value):
             self._body(body)
+
+    def _turns(self, value: Any) -> None:
+        """One body for all turns of a loop, or an array of one or more."""
+        if isinstance(value, list) and value and grammar.TURNS_SINCE <= self._version:
+            self._bodies(value)
+        else:
+            self._body(value)
 
     def _body(self, body: Any) -> None:
         if isinstance(body, str) and grammar.SINCE["run"] <= self._version:

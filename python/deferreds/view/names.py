@@ -10,8 +10,9 @@ STANDARD = "-"
 #: what the names of traces end with, and those of pages of every order or of a sample of them
 TRACE, ORDERS_PAGE, SAMPLE_PAGE = ".trace.json", ".orders.html", ".sample.html"
 
-#: what the names of files end with that stand beside a script or a journal: its places, and the list of its recording
-PLACES, RECORDING = ".places.json", ".recording"
+#: what the names of files end with that stand beside a script or a journal: its places, and the list of its recording; and the journal of
+#: a whole run, if the script is of its beginning
+PLACES, RECORDING, WHOLE_JOURNAL = ".places.json", ".recording", ".whole.journal"
 
 
 def page_name(name: str, ending: str) -> str:

@@ -31,6 +31,8 @@ _MADE: Dict[str, int] = {
     for word in LANGUAGE.at("action")
     if word.word != "deferred" and _NEW_DEFERRED in word.arguments
 }
+#: the words that may have an array of bodies or statements
+_WITH_LISTS = frozenset({"inline", "cooperate", "cooperateIn", "loop"})
 _DEEPEST = 1
 _EXACT = json.JSONDecoder()
 
@@ -164,7 +166,7 @@ def shown(action: object, deep: int = 0) -> str:
 def _argument(word: str, value: object, is_name: bool, deep: int) -> str:
     if is_name and isinstance(value, str):
         return value
-    if isinstance(value, dict) or (word in ("inline", "cooperate") and isinstance(value, list)):
+    if isinstance(value, dict) or (word in _WITH_LISTS and isinstance(value, list)):
         return _body(value, deep)
     return compact(value)
 

@@ -1,4 +1,4 @@
-ghost use Rattle.std.specs.Prelude.{option_map};
+ghost use Rattle.std.specs.Prelude.{[], option_map};
 ghost use Rattle.dv_document.specs.View.{view, items_view};
 ghost use Rattle.dv_clock.specs.declared.limits.TheConstants.{MOST_DELAY};
 ghost use Rattle.dv_forms.specs.Answer.{Reads};
@@ -7,7 +7,7 @@ ghost use Rattle.dv_forms.specs.Parts.{text_at, number_at, bound_at, value_at, c
 ghost use Rattle.dv_forms.specs.Parts.{list_flag_at, gather_flag_at, list_at, one_of, two_of};
 ghost use Rattle.dv_forms.specs.Parts.{three_of, each, if_there};
 ghost use Rattle.dv_grammar.specs.Shape.{action_at, new_deferred_of, timeout_of, loop_of, body_at};
-ghost use Rattle.dv_grammar.specs.Shape.{statement_at, with_body};
+ghost use Rattle.dv_grammar.specs.Shape.{some_bodies, statement_at, turns_at, with_body};
 
 use crate::reading::body::{bodies, body};
 use crate::reading::statement::statements;
@@ -19,7 +19,7 @@ use dv_forms::arguments::{
     named_value, one_small, one_text, two_texts,
 };
 use dv_forms::leaf::{
-    array, boolean, call, five, number, one_or_two, small, text, three, two, two_or_three,
+    array, boolean, call, first, five, number, one_or_two, small, text, three, two, two_or_three,
 };
 use dv_forms::shape_fault::ShapeFault;
 use dv_forms::words::ActionWord;
@@ -286,8 +286,57 @@ fn loop_of(
     let deferred = text(alloc, deferred)?;
     let interval = number(interval, 1, MOST_DELAY)?;
     let at_once = boolean(at_once)?;
+    let (body, bodies) = turns(alloc, classes, levels, json)?;
+    Ok(Action::Loop(name, deferred, interval, at_once, body, bodies))
+}
+
+/// The bodies of the turns of a loop, the first apart: those of an array, or one body.
+#[cycle(shape)]
+#[tactic(auto, unfolding(crate::specs::Shape::turns_at))]
+fn turns(
+    alloc: Global,
+    classes: &Classes,
+    levels: u32,
+    json: Json<'_>,
+) -> Result<(Boxed<Body>, Items<Body>), ShapeFault>
+    ensures { Reads result (turns_at (body_at classes.now levels) (view json.entry)) }
+{
+    match json.as_array() {
+        Some(items) => some_bodies(alloc, classes, levels, items),
+        None => one_body(alloc, classes, levels, json),
+    }
+}
+
+/// The bodies of an array of one or more, the first apart.
+#[cycle(shape)]
+#[tactic(auto, unfolding(crate::specs::Shape::some_bodies))]
+fn some_bodies(
+    alloc: Global,
+    classes: &Classes,
+    levels: u32,
+    items: Elements<'_>,
+) -> Result<(Boxed<Body>, Items<Body>), ShapeFault>
+    ensures { Reads result (some_bodies (body_at classes.now levels) (items_view items.entry)) }
+{
+    let (json, rest) = first(items)?;
     let body = Boxed::new(alloc, body(alloc, classes, levels, json)?)?;
-    Ok(Action::Loop(name, deferred, interval, at_once, body))
+    let bodies = bodies(alloc, classes, levels, rest)?;
+    Ok((body, bodies))
+}
+
+/// One body for all turns.
+#[cycle(shape)]
+fn one_body(
+    alloc: Global,
+    classes: &Classes,
+    levels: u32,
+    json: Json<'_>,
+) -> Result<(Boxed<Body>, Items<Body>), ShapeFault>
+    ensures { Reads result
+        (option_map (λ b. (b, [])) (body_at classes.now levels (view json.entry))) }
+{
+    let body = Boxed::new(alloc, body(alloc, classes, levels, json)?)?;
+    Ok((body, Items::new(alloc)))
 }
 
 #[cycle(shape)]

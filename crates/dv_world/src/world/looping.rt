@@ -11,7 +11,7 @@ use dv_journal::deferred_id::DeferredId;
 use dv_journal::entry::Entry;
 use dv_objects::looping_call::LoopingCall;
 use dv_objects::performed::Performed;
-use dv_script::lent::{BodyRef, TextRef};
+use dv_script::lent::{BodiesRef, BodyRef, TextRef};
 use dv_value::class_id::ClassId;
 use dv_value::fault::failure;
 use dv_value::text::Text;
@@ -22,7 +22,7 @@ impl<'s> World<'s> {
     ghost use Rattle.dv_journal.specs.declared.entry.Entry.TheVariants as entry;
     ghost use Rattle.dv_objects.specs.Names.{number_of};
     ghost use Rattle.dv_objects.specs.Looping.{with_new_loop, with_added_loop, with_stopped};
-    ghost use Rattle.dv_world.specs.World.{aside, schedule_turn, stop_loop, end_loop};
+    ghost use Rattle.dv_world.specs.World.{aside, begin_turn, schedule_turn, stop_loop, end_loop};
 
     /// Makes a loop that is started now, whose Deferred this is, and binds its name to it, also
     /// where that was bound to another (Twisted: `LoopingCall.start`). No turn is scheduled yet.
@@ -34,9 +34,10 @@ impl<'s> World<'s> {
         of: DeferredId,
         interval: u64,
         body: BodyRef<'s>,
+        bodies: BodiesRef<'s>,
     ) -> Result<LoopId, AllocError>
         ensures made { OnOk result (self.new ≡ aside (entry.Loop name.entry of)
-            (with_new_loop name.entry of interval body.entry) self.old) }
+            (with_new_loop name.entry of interval body.entry bodies.entry) self.old) }
         ensures id { IfOk result (λ id. id ≡ length self.old.objects.loops) }
     {
         let Ok(number) = u32::try_from(self.loops.len()) else {
@@ -55,6 +56,7 @@ impl<'s> World<'s> {
             running: true,
             turn: None,
             body,
+            bodies,
         };
         match self.journal.write(Entry::Loop(shown, of)) {
             Ok(()) => self.add_loop(id, looping),
@@ -96,6 +98,24 @@ impl<'s> World<'s> {
         match looping.turn {
             None => false,
             Some(turn) => self.clock.waits(turn),
+        }
+    }
+
+    /// A turn of a loop has begun: from now on its next turn performs the next of its bodies, where
+    /// one is left, or else the same.
+    #[tactic(auto, unfolding(crate::specs::World::arrange))]
+    pub fn begin_turn(&mut self, id: LoopId)
+        ensures { self.new ≡ begin_turn id self.old }
+    {
+        if self.stopped {
+            return;
+        }
+        let Some(looping) = self.loops.get_mut(id.number() as usize) else {
+            return;
+        };
+        if let Some((body, rest)) = looping.bodies.split() {
+            looping.body = BodyRef::new(body);
+            looping.bodies = rest;
         }
     }
 

@@ -6,7 +6,7 @@ What a later run makes has the name of what the first one made in its place: a s
 from __future__ import annotations
 
 from fractions import Fraction
-from typing import Any, Callable, List, Optional, Sequence, Tuple, Union
+from typing import Any, Callable, Iterable, List, NamedTuple, Optional, Sequence, Tuple, Union
 
 from ..telling import Action, Record, Thing, Time
 from .bodies import Body, Done, Run, Steps, Unsayable
@@ -45,6 +45,17 @@ def _first_thing(thing: Thing) -> Thing:
     return thing
 
 
+class Known(NamedTuple):
+    """How much is known of what is the same: how many changes were made, and how many pairs of failures were found that were caught."""
+
+    changes: int
+    caught: int
+
+
+#: nothing is known
+NOTHING = Known(0, 0)
+
+
 class Alike:
     """Compares runs. However deep bodies lie in each other, this takes no room on the stack."""
 
@@ -57,12 +68,16 @@ class Alike:
         #: the actions that are the same and whose failures were caught
         self._caught: List[Tuple[Action, Action]] = []
 
-    def undo(self) -> None:
-        """Has everything be as it was before runs were compared."""
-        for changed, name, before in reversed(self._changed):
+    @property
+    def known(self) -> Known:
+        """How much is known."""
+        return Known(len(self._changed), len(self._caught))
+
+    def undo_to(self, known: Known) -> None:
+        """Has everything be as it was when so much was known."""
+        for changed, name, before in reversed(self._changed[known.changes :]):
             setattr(changed, name, before)
-        self._changed.clear()
-        self._caught.clear()
+        del self._changed[known.changes :], self._caught[known.caught :]
 
     def name_helpers(self) -> None:
         """Has the helpers of actions whose failures were caught have the names of those that are the same in the first runs."""
@@ -84,6 +99,13 @@ class Alike:
                 return False
             left += reversed(within)
         return True
+
+    def would_be_same(self, first: Run, others: Iterable[Run]) -> bool:
+        """Whether some runs are all the same as the first one. Nothing is known by that afterwards."""
+        before = self.known
+        found = all(self.are_same(first, other) for other in others)
+        self.undo_to(before)
+        return found
 
     def _within(self, one: Any, two: Any) -> Optional[_Pairs]:
         """What has to be the same for these to be, each part of one with that of the other; None, where they aren't."""

@@ -43,6 +43,10 @@ class Steps:
         self.bodies: List[Body] = []
 
 
+class Turns(Steps):
+    """The bodies of the turns of a loop, where these did different things. The last one is also that of all turns after it."""
+
+
 class Done(NamedTuple):
     """What was done in a run: the actions, in order, and how it ended."""
 

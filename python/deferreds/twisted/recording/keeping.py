@@ -12,7 +12,7 @@ import twisted
 from ...view.pages import page_of
 from ...view.run import run_of
 from ...view.sizes import several
-from ...view.names import PLACES
+from ...view.names import PLACES, WHOLE_JOURNAL
 from ...view.sources import Source
 from ..programs import Program
 from .agreeing import Agreement, agreed
@@ -107,7 +107,7 @@ class Keeping:
         else:
             files.update({".json": said.text + "\n", ".journal": said.output})
             if not said.is_whole:
-                files[".whole.journal"] = said.whole_output
+                files[WHOLE_JOURNAL] = said.whole_output
         counts = self._add_places_and_page(files, said, None if agreement.is_wrong else said.places)
         written = self._write_files(files, self._facts(said, how, earlier, agreement.text), counts)
         if not written.is_any:
@@ -180,7 +180,7 @@ class Keeping:
             self.messages.say(f"{name}.json and {name}.journal: {lines}, {deferreds}; {agreement.text}")
             return
         lacks = ". It may lack what is refused" if said.is_cut else ""
-        self.messages.say(f"{name}.whole.journal: {lines}, {deferreds}{lacks}")
+        self.messages.say(f"{name}{WHOLE_JOURNAL}: {lines}, {deferreds}{lacks}")
         self.messages.say(f"{name}.json and {name}.journal: {_beginning(said)}; {agreement.text}")
 
 

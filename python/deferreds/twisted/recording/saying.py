@@ -22,14 +22,15 @@ from ..script import nodes
 from ..telling import Action, Advance, Begun, Ended, Failed, Part, Record, Thing, Time
 from ..texts import Outcome, Text, compact
 from .again import hide_again
-from .alike import Alike, exact, first_body, first_record
-from .bodies import Body, Done, Run, Steps, Unsayable, bodies_of, deepest, in_words
+from .alike import NOTHING, Alike, exact, first_body, first_record
+from .bodies import Body, Done, Run, Steps, Turns, Unsayable, bodies_of, deepest, in_words
 from .declaring import MOST_OF_EVENT, Declared
 from .hindsight import Hindsight
 from .outcomes import outcomes_of
 from .places import FreeNames, name_of_spot
 from .recorder import Problem, Recorder
 from .ticking import Uneven, changes_of, places_of
+from .turns import tell_apart
 from .whereabouts import Acted, actions_of, whereabouts_of
 
 _FINEST = 10**9
@@ -86,8 +87,7 @@ class Said:
         self._left: Dict[Inner, str] = {}
         self._stuck: Dict[Inner, str] = {}
         self._hindsight = Hindsight(recorder, counts)
-        #: the loops whose turns differ, and the bodies of each event, each before those that lie in it; None: it can't be said
-        self._differing: Dict[Inner, str] = {}
+        #: the bodies of each event, each before those that lie in it; None: it can't be said
         self._found: Optional[List[Sequence[Body]]] = None
         #: those of the problems that are of the size of the whole run alone: the script is of its beginning
         self.too_large: List[Problem] = []
@@ -104,8 +104,9 @@ class Said:
         #: by the numbers of Python for actions that add a pair which only fires another Deferred, what fires it
         self._chains: Dict[int, Action] = {}
         self._alike = Alike(self._runs, self._done)
-        #: the place of the event that is being said
+        #: the place of the event that is being said; and where that is known, how many events had ended before the part that is
         self._saying: Optional[int] = None
+        self._ended_by_then: Optional[int] = None
         self._choose()
         #: the bodies that the script declares, and those of the event that is being said, by their numbers of Python
         self._declared = Declared()
@@ -256,7 +257,7 @@ class Said:
             leaving = self._leaving(conflict)
             if not leaving:
                 break
-            self._alike.undo()
+            self._alike.undo_to(NOTHING)
             self._hindsight.leave(list(leaving))
             self._recorder = self._hindsight.recorder
             hide_again(self._recorder)
@@ -273,8 +274,6 @@ class Said:
         for cooperating in self._cooperators():
             if cooperating.inner is not None and self._lack(cooperating):
                 reasons.setdefault(cooperating.inner, self._lack(cooperating))
-        for inner, why in self._differing.items():
-            reasons.setdefault(inner, why)
         for inner, entry in self._recorder.quirks_of:
             if not inner.unclear:
                 reasons.setdefault(inner, f"Twisted does what docs/TWISTED.md says of {entry.value}")
@@ -294,17 +293,13 @@ class Said:
         return None if chosen is None else chosen.inner
 
     def _find_all_bodies(self) -> None:
-        """Finds the bodies of all events, and the loops whose turns differ."""
-        self._differing.clear()
+        """Finds the bodies of all events."""
         self._chains.clear()
-        before = len(self.problems)
         try:
             self._found = [self._find_bodies(action) for action in self._each_event()]
             self._saying = None
         except CannotSay:
             self._found = None
-        if self._differing:
-            del self.problems[before:]
 
     def _note_plainly(self) -> None:
         """Notes what is recorded as what it is made of, and what would have to be and can't."""
@@ -500,6 +495,7 @@ class Said:
         """The events of the script, each as long as it is said."""
         for place, action in enumerate(self.actions[: self.events]):
             self._saying = place
+            self._ended_by_then = None
             yield action
 
     def _ended_before(self, place: int) -> int:
@@ -566,15 +562,17 @@ class Said:
     def _version(self, script: Dict[str, Any]) -> int:
         """The least version that has the words of a script, and its limit."""
         keys = [key.since for key in LANGUAGE.keys_of("script") if key.key in script]
-        forms = {(action[0], len(action) - 1) for _, action in actions_of(script, self.acted)}
+        actions = [action for _, action in actions_of(script, self.acted)]
+        forms = {(action[0], len(action) - 1) for action in actions}
+        turns = [grammar.TURNS_SINCE] if any(map(_has_turns, actions)) else []
         failures = [grammar.FAILURES_SINCE] if _has_failures([script["events"], self._declared.pairs]) else []
         large = [_LARGE_SINCE] if script["limit"] > _SMALL_LIMIT else []
-        return max([*keys, *failures, *large, *(grammar.ACTIONS_SINCE.get(form, 1) for form in forms)])
+        return max([*keys, *turns, *failures, *large, *(grammar.ACTIONS_SINCE.get(form, 1) for form in forms)])
 
     def _cannot(self, reason: str, kind: Optional[str] = None, place: str = "", ended: Optional[int] = None) -> CannotSay:
         """The event that is said, or what happens after so many have ended, can't be said."""
         if ended is None and self._saying is not None:
-            ended = self._ended_before(self._saying)
+            ended = self._ended_before(self._saying) if self._ended_by_then is None else self._ended_by_then
         self._problem(reason, kind, place, ended)
         return CannotSay(reason)
 
@@ -591,35 +589,32 @@ class Said:
                 self._chains[id(action)] = chained
                 continue
             for body in bodies_of(action):
-                found.append(body)
                 runs = self._compared(body, action)
+                if runs is None:
+                    left.append(action)  # which has a body for each turn now
+                    break
+                found.append(body)
                 if runs:
                     left += reversed(self._done(runs[0]).actions)
         return found
 
-    def _compared(self, body: Body, action: Action) -> Sequence[Run]:
-        """The runs of a body of an action, which have to be the same."""
+    def _ended_with(self, begun: int) -> int:
+        """How many events had ended in the program when so many of this recorder's had begun."""
+        return begun - 1 + self._recorder.preceding
+
+    def _compared(self, body: Body, action: Action) -> Optional[Sequence[Run]]:
+        """The runs of a body of an action, which have to be the same. None: they are turns that aren't, and are told apart now."""
         runs = self._runs(body)
+        before = self._alike.known
         for other in runs[1:]:
             if not self._alike.are_same(runs[0], other):
-                inner = self._inner_of_turns(body, action)
-                if inner is not None:
-                    self._differing[inner] = "a turn did something else than the first one"
-                    return runs[:1]
+                self._alike.undo_to(before)
+                if tell_apart(action, self._recorder.parts, self._recorder.preceding_parts, self._alike):
+                    return None
                 kind = "loop" if body.kind == "turn" else None
-                ended = other.began - 1 + self._recorder.preceding
-                raise self._cannot(f"a {body.kind} ran more than once, and did something else", kind, in_words(action), ended)
+                why = f"a {body.kind} ran more than once, and did something else"
+                raise self._cannot(why, kind, in_words(action), self._ended_with(other.began))
         return runs
-
-    def _inner_of_turns(self, body: Body, action: Action) -> Optional[Inner]:
-        """Where it is noted what the loop does by itself whose turns are runs of this body, if it can be told as what it is made of."""
-        inner = action.inner_of if body.kind == "turn" else None
-        if not isinstance(inner, Inner):
-            return None
-        if inner.unclear:
-            self._stuck[inner] = inner.unclear
-            return None
-        return inner
 
     def _event(self, action: Action, bodies: Sequence[Body]) -> List[Any]:
         """An event, in which these bodies lie. If they do so too deep for a script, some are declared."""
@@ -640,6 +635,7 @@ class Said:
         for body in reversed(bodies):
             said = self._said[id(body)] = self._say_body(body)
             self._declared.measure(said)
+        self._ended_by_then = None
         return self._helped(action)
 
     def _action(self, said: Action) -> List[Any]:
@@ -661,7 +657,7 @@ class Said:
                 if isinstance(part, Body):
                     words[place] = self._named(part, words[place], said)
                 elif isinstance(part, Steps):
-                    words[place] = [self._named(body, step, said) for body, step in zip(part.bodies, words[place])]
+                    words[place] = [self._named(body, step, said) for body, step in zip(self._said_of(part), words[place])]
         return words
 
     def _named(self, body: Body, said: Any, action: Action) -> Any:
@@ -685,10 +681,16 @@ class Said:
         if isinstance(part, Body):
             return self._said[id(part)]
         if isinstance(part, Steps):
-            return [self._said[id(body)] for body in part.bodies]
+            return [self._said[id(body)] for body in self._said_of(part)]
         if isinstance(part, list):
             return [self._say(item) for item in part]
         return part
+
+    def _said_of(self, steps: Steps) -> Sequence[Body]:
+        """The bodies of a task or of the turns of a loop, but for turns of which none was taken in the events of the script."""
+        if self._has_all or not isinstance(steps, Turns):
+            return steps.bodies
+        return [body for place, body in enumerate(steps.bodies) if place == 0 or self._runs(body)]
 
     def _deferred(self, record: Record) -> str:
         if record.hidden_of is not None:
@@ -714,6 +716,7 @@ class Said:
     def _say_body(self, body: Body) -> Any:
         """A body, in which others are said already."""
         runs = self._runs(body)
+        self._ended_by_then = self._ended_with(runs[0].began) if runs else None
         if body.kind == "inline":
             return self._statements(runs[0]) if runs else []
         if not runs:
@@ -735,7 +738,11 @@ class Said:
 
     def _statements(self, run: Run) -> List[Any]:
         done = self._done(run)
-        statements = [self._statement(action) for action in done.actions]
+        statements: List[List[Any]] = []
+        for action in done.actions:
+            statements.append(self._statement(action))
+            if action.came is not None:
+                self._ended_by_then = self._ended_with(action.came)
         if done.end is not None:
             statements.append(["end", self._say(done.end)])
         return statements
@@ -816,7 +823,10 @@ class Said:
             too_large = [Problem(reason, "", None) for reason in reasons]
             self.too_large += too_large
             self.problems += too_large
-            self._cut(script)
+            if any(_has_turns(action) for _, action in actions_of(script, self.acted)):
+                self._shorten(script)
+            else:
+                self._cut(script)
 
     def _too_large(self, script: Dict[str, Any]) -> List[str]:
         """In what the script is larger than one may be."""
@@ -844,6 +854,23 @@ class Said:
         )
         script["events"] = events[: self.events]
         self._finish(script)
+
+    def _shorten(self, script: Dict[str, Any]) -> None:
+        """Leaves out the end of a run until the script of the rest, and its journal, aren't too large.
+
+        What a turn of a loop does stands where the loop begins. So what an event adds to the script isn't known event by event.
+        """
+        shorter: Optional[Dict[str, Any]] = script
+        while shorter is not None and self._too_large(shorter):
+            times_too_large = max(
+                len(self.text.encode()) / _MOST_BYTES,
+                nodes(shorter) / _MOST_NODES,
+                self._weights()[-1] / _MOST_LIMIT,
+            )
+            shorter = self._script_until(min(self._ended - 1, int(self._ended / times_too_large)))
+            if shorter is not None:
+                self._finish(shorter)
+        self.script = shorter
 
     def _weights(self) -> List[int]:
         """What the lines before each event weigh, and before the end of the script."""
@@ -895,6 +922,11 @@ def _second_part(count: int) -> str:
         if factor % count == 0:
             return f"{factor // count} {unit}"
     return f"1/{count} s"
+
+
+def _has_turns(action: Action) -> bool:
+    """Whether an action starts a loop whose turns have bodies of their own."""
+    return isinstance(action[-1], Turns)
 
 
 def _has_failures(events: List[Any]) -> bool:

@@ -2,7 +2,7 @@ use Rattle.std.proofs.Common.{refl}
 use Rattle.dv_definition.proofs.CasesHold.{tokens_are_waited_for, full_queues_refuse, fired_lists_stay, turns_follow}
 use Rattle.dv_definition.proofs.CasesHold.{ended_tasks_stay, name_errors_are_thrown, errbacks_are_for_failures}
 use Rattle.dv_definition.proofs.CasesHold.{many_jobs_are_refused, failures_of_calls_are_told, unmet_runs_end}
-use Rattle.dv_definition.proofs.CasesHold.{stopped_ones_take_none}
+use Rattle.dv_definition.proofs.CasesHold.{stopped_ones_take_none, turns_take_bodies}
 use Rattle.dv_definition.proofs.laws.rules_decide_their_cases.Goals as goal
 
 pub returns-clause-deferreds : goal.returns-clause-deferreds
@@ -31,6 +31,9 @@ returns-clause-timeouts c = λ d delay body w. refl
 
 pub returns-clause-loops : goal.returns-clause-loops
 returns-clause-loops c = turns_follow
+
+pub returns-clause-turns : goal.returns-clause-turns
+returns-clause-turns c = turns_take_bodies
 
 pub returns-clause-tasks : goal.returns-clause-tasks
 returns-clause-tasks c = ended_tasks_stay

@@ -33,7 +33,16 @@ abbrev pub decreases-action::later : goal.decreases-action::later
 decreases-action::later l = 16 * l.levels + 3
 
 abbrev pub decreases-action::loop_of : goal.decreases-action::loop_of
-decreases-action::loop_of l = 16 * l.levels + 3
+decreases-action::loop_of l = 16 * l.levels + 4
+
+abbrev pub decreases-action::turns : goal.decreases-action::turns
+decreases-action::turns l = 16 * l.levels + 3
+
+abbrev pub decreases-action::some_bodies : goal.decreases-action::some_bodies
+decreases-action::some_bodies l = 16 * l.levels + 2
+
+abbrev pub decreases-action::one_body : goal.decreases-action::one_body
+decreases-action::one_body l = 16 * l.levels + 1
 
 abbrev pub decreases-action::with_body : goal.decreases-action::with_body
 decreases-action::with_body l = 16 * l.levels + 3
