@@ -169,6 +169,8 @@ class Record:
     body: Optional["Frame"] = None
     alias: Optional["Record"] = None
     helper = False
+    #: its number in the notes of the run, if these are written
+    noted_as = -1
 
     def __init__(self, made_in: Optional["Frame"] = None) -> None:
         self.made_in = made_in
@@ -199,7 +201,7 @@ class Record:
 know_attributes(
     Record(),
     ("name", "number", "made_at", "fired", "waits_for", "ran", "same")
-    + ("pauses", "side", "kind", "came", "body", "alias", "helper"),
+    + ("pauses", "side", "kind", "came", "body", "alias", "helper", "noted_as"),
 )
 
 
@@ -211,6 +213,8 @@ class Thing:
     declared = False
     #: where it is noted what the object does by itself, if that is noted: a loop, a Cooperator, or a task of one
     inner: Any = None
+    #: its number in the notes of the run, if these are written
+    noted_as = -1
 
     def __init__(self, name: str, find_name: Optional[Callable[[], None]] = None) -> None:
         """`find_name` sets the name where that isn't known yet, and is called where it is asked for."""
@@ -267,6 +271,8 @@ class Action(List[Any]):
     at: Optional[int] = None
     #: of what an inline body awaits: how many events had begun when that came
     came: Optional[int] = None
+    #: its number in the notes of the run, if these are written
+    noted_as = -1
 
 
 class Advance(Action):
@@ -786,6 +792,15 @@ class Observer:
 
     def end_inline(self, frame: Frame, result: object) -> None:
         """An inline body has ended with this result."""
+
+    def has_result(self, work: List[Any]) -> None:
+        """The result of a job has come, and this, which its action has, says it from here on."""
+
+    def has_noted(self, inner: Any) -> None:
+        """Something is noted there of what an object does by itself."""
+
+    def rests(self) -> None:
+        """The reactor has run what was due, and may wait now."""
 
     def spot(self) -> Any:
         """Where the program is, as what is made there is named."""

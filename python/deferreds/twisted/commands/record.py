@@ -22,6 +22,10 @@ from before are recorded as the Python that they are made of, and so are locks a
 docs/SHAKE.md describes it. The status is then 1 if a run failed, 0 if none did, and 2 if no plain run passes. `--seed K` without it
 records one run that is shaken by this seed.
 
+With `--notes` the run is also written into NAME.notes as it happens, and isn't kept in memory. If the process is killed, `--from
+NAME.notes` makes the recording of all events before that. A run that ends writes the recording and removes the notes, which have what
+the recording hides. They stay with `--keep-notes`, and if the recording can't be written.
+
 If `./deferreds` is there, it runs the script, and its lines are compared with those of the run. If they differ behind an entry of
 docs/TWISTED.md, real Twisted runs the script, and the script ends before the event in which it prints other lines. If they differ
 without an entry, no script is kept.
@@ -35,14 +39,19 @@ or isn't known; 73: a file can't be written.
 from __future__ import annotations
 
 import argparse
+import contextlib
 import importlib.util
 import os
+import platform
 import shutil
 import sys
 import tempfile
 from importlib.machinery import PathFinder
+from itertools import islice
 from pathlib import Path
 from typing import List, Optional, Set, Tuple
+
+import twisted
 
 from ...arguments import USAGE, Parser
 from ...checkout import as_called, command_name
@@ -57,10 +66,13 @@ from ..recording.endings import Endings
 from ..recording.files import NoPlace, Place
 from ..recording.hiding import CHOICES, SECRETS
 from ..recording.keeper import Keeper
-from ..recording.keeping import Keeping, Status
+from ..recording.keeping import NOT_NOTED, Keeping, Status
 from ..recording.last import LastRecorder
 from ..recording.main_module import is_runnable, set_first_folder
 from ..recording.messages import Messages
+from ..recording.noted import header, noted
+from ..recording.notes import NOTES, BadNotes, NotesFile, read_notes
+from ..recording.noting import NotedRecorder
 from ..recording.programs import LADDER, NotLoaded, record_program, tests_of
 from ..recording.recorder import Recorder
 from ..recording.saying import Said
@@ -74,6 +86,9 @@ from ..shaking.tests import ShakenTest, has_reactor, names_of, record_one, run_t
 from ..telling import KINDS
 
 _NO_PROGRAM = 66
+
+#: what the name of the notes ends with that an earlier run has left
+_EARLIER = f".earlier{NOTES}"
 
 
 class Refused(Exception):
@@ -106,7 +121,10 @@ def _arguments(words: List[str]) -> argparse.Namespace:
         default="",
         help=f"record these as the Python that they are made of: {', '.join(sorted(KINDS))}",
     )
-    add("--redact", metavar="WHAT", default=SECRETS, help="hide `all` values, those that look like `secrets` (the default), or `none`")
+    add("--notes", action="store_true", help="write NAME.notes as it happens, which outlives SIGKILL, and keep little in memory")
+    add("--keep-notes", action="store_true", help="likewise, and don't remove it when the recording is written")
+    add("--from", dest="notes_of", metavar="NAME.notes", help="run nothing, and make the recording of these notes")
+    add("--redact", metavar="WHAT", default=None, help="hide `all` values, those that look like `secrets` (the default), or `none`")
     add_options(parser)
     add("program", nargs=argparse.REMAINDER, metavar="PROGRAM [ARGS..]")
     parsed = parser.parse_args(_detached(words))
@@ -125,7 +143,7 @@ def _count(word: str) -> int:
 
 def _detached(words: List[str]) -> List[str]:
     """The arguments, with `-mMODULE`, which Python accepts, as two of them."""
-    takes_word = ("-o", "--test", "--plain", "--redact", "--last", *TAKE_WORD)
+    takes_word = ("-o", "--test", "--plain", "--redact", "--last", "--from", *TAKE_WORD)
     before = ""
     for place, word in enumerate(words):
         if before not in takes_word:
@@ -143,20 +161,33 @@ def _check(arguments: argparse.Namespace) -> None:
     unknown = plain - KINDS
     if unknown:
         raise Refused(USAGE, f"--plain has no {', '.join(sorted(unknown))}: {', '.join(sorted(KINDS))}")
-    if arguments.redact not in CHOICES:
+    if arguments.redact not in (None, *CHOICES):
         raise Refused(USAGE, f"--redact has no {arguments.redact}: {', '.join(CHOICES)}")
     if arguments.module == []:
         raise Refused(USAGE, "-m needs a MODULE")
     wanted = [bool(arguments.program), bool(arguments.module), bool(arguments.test)]
+    if arguments.notes_of is not None:
+        _check_from(arguments, any(wanted))
+        return
     if not any(wanted):
         raise Refused(USAGE, "a PROGRAM, -m MODULE or --test MODULE.CLASS.METHOD is needed; --help says more")
     if arguments.test and arguments.last is not None:
         raise Refused(USAGE, "--last is for programs and modules, and not for --test")
+    if (arguments.notes or arguments.keep_notes) and (arguments.test or arguments.last is not None):
+        raise Refused(USAGE, "--notes is for whole runs of programs and modules, and goes neither with --test nor with --last")
     if wanted.count(True) > 1:
         raise Refused(USAGE, "one of PROGRAM, -m MODULE and --test MODULE.CLASS.METHOD is taken, and not two")
     problem = problem_of(arguments)
     if problem:
         raise Refused(USAGE, problem)
+
+
+def _check_from(arguments: argparse.Namespace, has_program: bool) -> None:
+    """Raises Refused if something stands beside --from that is decided when the notes are written."""
+    others = [arguments.redact, arguments.plain, arguments.last, arguments.virtual, arguments.notes, arguments.keep_notes]
+    others += [arguments.shake, arguments.seed]
+    if has_program or any(others):
+        raise Refused(USAGE, "--from runs nothing, and goes with -o, -f and --view alone: the notes say the rest")
 
 
 def _refuse_module(name: str) -> None:
@@ -226,11 +257,17 @@ def _record(arguments: argparse.Namespace, messages: Messages, target: str, word
     """Records a run of a program. Gives its status, and what became of the recording."""
     kinds = KINDS - set(arguments.plain.split(","))
     keeping = _keeping(arguments, name, messages)
-    if arguments.last is None:
-        recorder = Recorder(kinds, arguments.redact)
+    redact = arguments.redact or SECRETS
+    recorder: Recorder
+    if arguments.notes or arguments.keep_notes:
+        notes = _notes(keeping, arguments.overwrites, redact, messages)
+        recorder = NotedRecorder(kinds, redact)
+        keeper = Keeper(recorder, keeping, notes=notes, keeps_notes=arguments.keep_notes)
+    elif arguments.last is None:
+        recorder = Recorder(kinds, redact)
         keeper = Keeper(recorder, keeping)
     else:
-        recorder = LastRecorder(kinds, arguments.redact, arguments.last, lambda following: keeper.take_over(following))
+        recorder = LastRecorder(kinds, redact, arguments.last, lambda following: keeper.take_over(following))
         keeper = Keeper(recorder, keeping, _keeping(arguments, f"{name}.before", messages))
     with Endings(keeper).watched():
         status = record_program(recorder, target, words, bool(arguments.module), arguments.virtual)
@@ -278,12 +315,59 @@ def _shake_test(arguments: argparse.Namespace, messages: Messages, test: ShakenT
 
     def recorded(name: str) -> int:
         keeping = _keeping(arguments, name, Messages(command_name("record")))
-        status, recorder = record_one(test, kinds, arguments.redact)
+        status, recorder = record_one(test, kinds, arguments.redact or SECRETS)
         keeping.keep(Said(recorder), "failed" if status else "passed")
         return status
 
     place = _keeping(arguments, _name(arguments.output, usual), messages).place
     return Search(Program(lambda: run_test(test), recorded), wanted_of(arguments), place, messages).run()
+
+
+def _notes(keeping: Keeping, overwrites: bool, redact: str, messages: Messages) -> NotesFile:
+    """A new file of notes. What a run that was killed has left keeps its notes, under another name. Raises Refused where none can be made."""
+    path = keeping.place.name_with(NOTES)
+    if os.path.lexists(path):
+        if _are_notes(path):
+            os.replace(path, keeping.place.name_with(_EARLIER))
+            messages.say(f"{keeping.place.shown(NOTES)} is of a run that didn't end well: it is {keeping.place.shown(_EARLIER)} now")
+        elif overwrites and not path.is_dir():
+            path.unlink()
+        else:
+            raise Refused(Status.NOT_WRITTEN, f"{keeping.place.shown(NOTES)} is there, and isn't a file of notes; -o NAME gives another name")
+    try:
+        file = NotesFile(path, messages.say)
+    except OSError as error:
+        raise Refused(Status.NOT_WRITTEN, f"{keeping.place.shown(NOTES)} can't be written: {error.strerror}") from None
+    file.add(header(redact, str(twisted.__version__), platform.python_version()))
+    return file
+
+
+def _are_notes(path: Path) -> bool:
+    """Whether a file begins as notes do."""
+    with contextlib.suppress(OSError, BadNotes):
+        noted(list(islice(read_notes(path), 1)))
+        return True
+    return False
+
+
+def _from_notes(arguments: argparse.Namespace, messages: Messages) -> int:
+    """Makes the recording of notes."""
+    path = Path(arguments.notes_of)
+    stem = path.name[: -len(NOTES)] if path.name.endswith(NOTES) else path.name
+    keeping = _keeping(arguments, _name(arguments.output, stem) if arguments.output else str(path.with_name(stem)), messages)
+    try:
+        found = noted(read_notes(path))
+        said = Said(found.recorder, found.ended)
+    except OSError as error:
+        raise Refused(_NO_PROGRAM, f"{path} can't be read: {error.strerror}") from None
+    except BadNotes as why:
+        raise Refused(Status.REFUSED, f"{path} can't be read: {why}") from None
+    except MemoryError:
+        raise Refused(Status.NOT_WRITTEN, f"{path} can't be read: out of memory") from None
+    except Exception as error:  # (notes whose parts don't go together may have anything fail)
+        raise Refused(Status.REFUSED, f"{path} can't be read: its notes don't go together ({type(error).__name__})") from None
+    keeping.twisted, keeping.python = found.twisted, found.python
+    return keeping.keep(said, found.how or NOT_NOTED)
 
 
 def _test(arguments: argparse.Namespace, messages: Messages) -> int:
@@ -297,7 +381,7 @@ def _test(arguments: argparse.Namespace, messages: Messages) -> int:
     best: Optional[Tuple[TestRun, Said]] = None
     ladder = [KINDS - set(arguments.plain.split(","))] if arguments.plain else LADDER
     for kinds in ladder:
-        run = record_test(*found[0], kinds, arguments.virtual, arguments.redact)
+        run = record_test(*found[0], kinds, arguments.virtual, arguments.redact or SECRETS)
         said = Said(run.recorder)
         best = best or (run, said)
         if said.script is not None and len(said.problems) == len(said.too_large):
@@ -317,6 +401,8 @@ def main(words: List[str]) -> int:
     try:
         arguments = _arguments(words)
         _check(arguments)
+        if arguments.notes_of is not None:
+            return _from_notes(arguments, messages)
         if arguments.shake is None:
             install()
         if arguments.module or arguments.test:

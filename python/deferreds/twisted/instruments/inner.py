@@ -25,7 +25,7 @@ _WORDS = {"loop": 2, "cooperator": 1}
 class OwnCall:
     """What an object schedules itself, which is a delayed call if the object isn't recorded. Little is kept of each: there may be many."""
 
-    __slots__ = ("delay", "due", "waiting", "scheduled", "scheduled_at", "ran_at", "cancelled_at", "notes", "raises")
+    __slots__ = ("delay", "due", "waiting", "scheduled", "scheduled_at", "ran_at", "cancelled_at", "notes", "raises", "noted_as")
 
     def __init__(self, delay: Time, due: float, waiting: Any, scheduled_at: int) -> None:
         self.delay = delay
@@ -40,6 +40,8 @@ class OwnCall:
         #: what was done in it, and the END by which it has ended, where it raised an error
         self.notes: Notes = []
         self.raises: Any = None
+        #: its number in the notes of the run, if these are written
+        self.noted_as = -1
 
     @property
     def waits(self) -> bool:
@@ -79,7 +81,7 @@ class Turn:
     Little is kept of each, since there may be many.
     """
 
-    __slots__ = ("body", "number", "began_at", "record", "named_at", "added_at", "sides")
+    __slots__ = ("body", "number", "began_at", "record", "named_at", "added_at", "sides", "noted_as")
 
     def __init__(self, body: Any, began_at: int) -> None:
         self.body = body
@@ -91,6 +93,8 @@ class Turn:
         #: before which parts of lines its pairs were added, and the sides that have run, each with which pair it is of
         self.added_at: Tuple[int, ...] = ()
         self.sides: Tuple[Tuple[int, TurnSide], ...] = ()
+        #: its number in the notes of the run, if these are written
+        self.noted_as = -1
 
     def side(self, pair: int) -> Optional[TurnSide]:
         """The side of a pair, if it has run."""
@@ -165,6 +169,9 @@ class Inner:
         self.turn: Optional[Turn] = None
         self.errors: List[Tuple[TickError, Any]] = []
         self._notes: Optional[Notes] = None
+        #: its number in the notes of the run, and what of it isn't in them for good, if these are written
+        self.noted_as = -1
+        self.unsettled: Any = None
 
     @property
     def words(self) -> int:
@@ -185,6 +192,7 @@ class Inner:
         """Twisted does here what an entry of the profile names, if the object is recorded as such."""
         self.quirks_as_such.append((len(watcher.parts), entry))
         watcher.quirks_of.append((self, entry))
+        watcher.has_noted(self)
 
     def note(self, watcher: Observer, what: Any) -> None:
         """Notes an action, the body of a step, a turn, or what was scheduled or cancelled."""
@@ -192,10 +200,12 @@ class Inner:
             self.refuse(f"Twisted itself uses a {self.kind.replace('cooperator', 'Cooperator')}")
         else:
             self._notes.append((len(watcher.parts), what))
+        watcher.has_noted(self)
 
     def act(self, watcher: Observer, action: Action, call: Callable[..., Any], *args: Any) -> Any:
         """Performs a call of the program's on the object."""
         self.used_in.add(watcher.frame)
+        watcher.has_noted(self)
         return watcher.act(action, self._within_action, watcher, action, call, *args)
 
     def _within_action(self, watcher: Observer, action: Action, call: Callable[..., Any], *args: Any) -> Any:
@@ -256,6 +266,7 @@ class Inner:
         watcher.parts.append(body)
         side.run.end = ["return", None]
         self.sides.append(side)
+        watcher.has_noted(self)
         try:
             return self._within(side.notes, call, *args)
         except BaseException as error:
@@ -283,6 +294,7 @@ class Inner:
         """Performs what a side does of a pair of a turn. A line that its body runs has a place."""
         side = TurnSide(len(watcher.parts), given)
         turn.sides += ((pair, side),)
+        watcher.has_noted(self)
         watcher.parts.append("")
         try:
             return self._within(side.notes, call, *args)
@@ -298,6 +310,7 @@ class Inner:
             self.within(event, tick)
         except BaseException as error:
             if watcher.pace is not None and not fails_inside(event.inner):
+                watcher.has_noted(self)
                 self.errors.append((TickError(watcher, event, error), made_at))
             raise
 
@@ -322,6 +335,7 @@ class Inner:
         """Runs what was scheduled, whose line was the last. A line that its body runs has a place after that."""
         call.scheduled = None
         call.ran_at = len(watcher.parts) - self.words - 1
+        watcher.has_noted(self)
         watcher.parts.append("")
         event = watcher.happening() if watcher.pace is not None else None
         if event is not None:

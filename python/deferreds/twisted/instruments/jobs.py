@@ -48,6 +48,7 @@ class _Handing:
             self.work[:] = watcher.raised(watcher.texts.error_of(result))
         else:
             self.work[1] = watcher.value(watcher.texts.outcome(result))
+        watcher.has_result(self.work)
         line = (f"deliver {self._number}",)
         watcher.pace.run(self.waiting, functools.partial(tell_due, watcher, None, line, functools.partial(fire, result)))
 

@@ -43,7 +43,7 @@ class Waiting(NamedTuple):
     delay: Time
 
 
-class _Moved(NamedTuple):
+class Moved(NamedTuple):
     """That something is due at another time than before, and the action which has that be so."""
 
     action: Action
@@ -58,10 +58,11 @@ class Pace:
         self._watcher = watcher
         self._reactor = reactor
         self._base: float = reactor.seconds()
-        self._steps = [Step(None, 0)]
-        self._advances: Dict[Step, Advance] = {}
-        self._waiting: List[Waiting] = []
-        self._moved: List[_Moved] = []
+        #: what has happened, in order, with the advances; what was scheduled; and what was moved
+        self.steps = [Step(None, 0)]
+        self.advances: Dict[Step, Advance] = {}
+        self.waiting: List[Waiting] = []
+        self.moved: List[Moved] = []
         #: how many more turns are due when one is
         self._turns: Dict[int, int] = {}
         #: the turn for which a loop waits, and its call
@@ -92,11 +93,12 @@ class Pace:
     def end_turn(self) -> None:
         """The reactor has run what was due: what comes next comes from elsewhere."""
         self._turn, self._fresh, self._told = None, True, False
+        self._watcher.rests()
 
     def _is_fresh(self) -> bool:
         """Whether what comes from elsewhere now is the first in a turn."""
         if self._is_driven:
-            return self._fresh or self._real() >= self._steps[-1].real + MILLISECOND
+            return self._fresh or self._real() >= self.steps[-1].real + MILLISECOND
         return self._fresh or (not self._told and self._is_in_loop())
 
     def _is_in_loop(self) -> bool:
@@ -115,12 +117,13 @@ class Pace:
 
     def _begin_turn_of_loop(self) -> None:
         self._told = False
+        self._watcher.rests()
 
     # what is scheduled
 
     def later(self, delay: float) -> Waiting:
         """A call is scheduled, so many seconds from now."""
-        return self._make(Entry(len(self._waiting), round(delay * UNITS)))
+        return self._make(Entry(len(self.waiting), round(delay * UNITS)))
 
     def reset(self, waiting: Waiting, delay: float, action: Action) -> Waiting:
         """What waits is due so many seconds from now, by this action."""
@@ -134,29 +137,29 @@ class Pace:
     def _move(self, waiting: Waiting, entry: Entry, action: Action) -> Waiting:
         """It waits as this entry from now on, which has its place in the order of scheduling."""
         fresh = self._make(entry)
-        self._steps[-1].end(waiting.entry)
-        self._moved.append(_Moved(action, waiting.entry, fresh))
+        self.steps[-1].end(waiting.entry)
+        self.moved.append(Moved(action, waiting.entry, fresh))
         action[2] = fresh.delay
         return fresh
 
     def job(self) -> Waiting:
         """A result will come, at a time that isn't known."""
-        return self._make(Entry(len(self._waiting)))
+        return self._make(Entry(len(self.waiting)))
 
     def tick(self, delay: float, further: bool, owner: Any = None) -> Waiting:
         """A tick is scheduled, so many seconds from now: one of the first Cooperator, or of a further one."""
-        return self._make(Entry(len(self._waiting), tick=Tick(round(delay * UNITS), further, owner)))
+        return self._make(Entry(len(self.waiting), tick=Tick(round(delay * UNITS), further, owner)))
 
     def hold_place(self) -> Waiting:
         """A call could be scheduled now that is due at once: `run_at_once` has it be so."""
-        waiting = Waiting(Entry(len(self._waiting), 0), Time(0), Time(0))
-        self._waiting.append(waiting)
+        waiting = Waiting(Entry(len(self.waiting), 0), Time(0), Time(0))
+        self.waiting.append(waiting)
         return waiting
 
     def _make(self, entry: Entry) -> Waiting:
         waiting = Waiting(entry, Time(0), Time(0))
-        self._waiting.append(waiting)
-        self._steps[-1].make(entry)
+        self.waiting.append(waiting)
+        self.steps[-1].make(entry)
         return waiting
 
     def start_loop(self, interval: float, owner: Any = None) -> Loop:
@@ -165,8 +168,8 @@ class Pace:
         It is recorded to start at the next whole millisecond of the reactor's, or before a turn that is due by then, or with another that
         the same body has just started.
         """
-        step = self._steps[-1]
-        at = self._first_start() if step is self._steps[0] and not step.starts else self._next_start()
+        step = self.steps[-1]
+        at = self._first_start() if step is self.steps[0] and not step.starts else self._next_start()
         if step.starts and at - step.starts[0].at < _APART:
             at = step.starts[0].at
         loop = Loop(max(1, round(interval * UNITS)), at, self._watcher.place(), owner)
@@ -188,24 +191,24 @@ class Pace:
         """The next turn of a loop is scheduled, so many seconds from now."""
         asked = round(delay * UNITS)
         if loop.is_loose:
-            return self._make(Entry(len(self._waiting), asked, loop))
+            return self._make(Entry(len(self.waiting), asked, loop))
         since = self._reactor.seconds() + delay - looping.starttime
         number = max(1, round(since / looping.interval) - loop.missed)
-        if number > 1 and len(self._steps) == 1 and self._steps[0].starts == [loop]:
+        if number > 1 and len(self.steps) == 1 and self.steps[0].starts == [loop]:
             # its first turn has blocked: the beginning is recorded to be after that
             loop.missed, number = number - 1, 1
             self._base += loop.missed * loop.interval / UNITS
         loop.earliest = looping.starttime + (number + loop.missed) * looping.interval
-        if number == 1 and loop in self._steps[-1].starts:
+        if number == 1 and loop in self.steps[-1].starts:
             self._start_late(loop, looping.starttime + loop.missed * looping.interval)
-        return self._make(Entry(len(self._waiting), asked, loop, number))
+        return self._make(Entry(len(self.waiting), asked, loop, number))
 
     def _start_late(self, loop: Loop, started: float) -> None:
         """A loop that has started after the time at which it is recorded to, as on a busy machine, is recorded to start after that.
 
         So are those which are recorded to start with it: the turns of all are due at times that can be given to their calls.
         """
-        step = self._steps[-1]
+        step = self.steps[-1]
         late = int((started - self._base) * UNITS) + _LEAST_EARLY - loop.at
         late = -(-late // MILLISECOND) * MILLISECOND
         together = [other for other in step.starts if other.at == loop.at]
@@ -216,7 +219,7 @@ class Pace:
             return
         for entry, _ in calls.values():
             self._forget_turn(entry)
-        if step is self._steps[0]:
+        if step is self.steps[0]:
             self._base += late / UNITS
         else:
             for other in together:
@@ -246,9 +249,9 @@ class Pace:
 
     def event(self, starts_loop: bool) -> None:
         """The program does something of its own: time goes on to that, once in a turn of the reactor's, and where a loop starts."""
-        step = self._steps[-1]
+        step = self.steps[-1]
         step.closed = True
-        if not self._is_fresh() and (not starts_loop or (step is self._steps[0] and not step.starts)):
+        if not self._is_fresh() and (not starts_loop or (step is self.steps[0] and not step.starts)):
             return
         self._tell_time()
         advance = self._begin(None, self._real() if self._turn is None else self._turn)
@@ -275,7 +278,7 @@ class Pace:
     def end(self, waiting: Waiting) -> None:
         """What waits is cancelled."""
         self._forget_turn(waiting.entry)
-        self._steps[-1].end(waiting.entry)
+        self.steps[-1].end(waiting.entry)
 
     def _forget_turn(self, entry: Entry) -> None:
         if entry.loop is not None and entry.turn:
@@ -284,45 +287,45 @@ class Pace:
 
     def _begin(self, entry: Optional[Entry], real: int) -> Advance:
         step = Step(entry, real)
-        self._steps.append(step)
-        advance = self._advances[step] = Advance()
+        self.steps.append(step)
+        advance = self.advances[step] = Advance()
         return advance
 
     # times
 
     def run_at_once(self, waiting: Waiting, after: Action, advance: Advance) -> None:
         """Has a call be scheduled at the end of what an advance has run, and be run next, by another advance."""
-        place = next(place for place, step in enumerate(self._steps) if self._advances.get(step) is after)
-        before = self._steps[place]
+        place = next(place for place, step in enumerate(self.steps) if self.advances.get(step) is after)
+        before = self.steps[place]
         before.closed = True
         before.make(waiting.entry)
         step = Step(waiting.entry, before.real)
-        self._steps.insert(place + 1, step)
-        self._advances[step] = advance
+        self.steps.insert(place + 1, step)
+        self.advances[step] = advance
 
     def loosen(self, is_left: Callable[[Any], bool]) -> None:
         """Has turns of loops that have such an owner be delayed calls that do nothing: what they do is done after them."""
-        for step in self._steps:
+        for step in self.steps:
             for loop in step.starts:
                 loop.is_loose = loop.is_loose or is_left(loop.owner)
             step.loosen_turn(lambda entry: is_left(entry.owner))
 
     def leave_ticks(self, is_left: Callable[[Any], bool], has_events: Callable[[Advance], bool]) -> None:
         """Has ticks that have such an owner come from elsewhere, those in which something happens: an event, or something is scheduled."""
-        kept = without_ticks(self._steps, lambda entry: is_left(entry.owner), lambda step: has_events(self._advances[step]))
-        for step in set(self._steps).difference(kept):
-            self._advances.pop(step).is_told = False
-        self._steps = kept
+        kept = without_ticks(self.steps, lambda entry: is_left(entry.owner), lambda step: has_events(self.advances[step]))
+        for step in set(self.steps).difference(kept):
+            self.advances.pop(step).is_told = False
+        self.steps = kept
 
     def is_running(self, waiting: Waiting) -> bool:
         """Whether this is what the reactor has run last."""
-        return self._steps[-1].entry is waiting.entry
+        return self.steps[-1].entry is waiting.entry
 
     def settle(self) -> Optional[Conflict]:
         """Sets the times of all lines and actions: why there are none, where no times give what happened."""
         conflict: Optional[Conflict] = None
         try:
-            settle(self._steps)
+            settle(self.steps)
         except Conflict as why:
             conflict = why
         self._set_times()
@@ -334,19 +337,19 @@ class Pace:
         place = self._settled_steps(conflict.steps)
         if place == 0:
             return None
-        last = self._steps[place - 1].time
-        for step in self._steps[place:]:
+        last = self.steps[place - 1].time
+        for step in self.steps[place:]:
             step.advances, step.time = True, max(last, step.real)
             step.by, last = step.time - last, step.time
         self._set_times()
-        return self._advances.get(self._steps[place])
+        return self.advances.get(self.steps[place])
 
     def _settled_steps(self, most: int) -> int:
         """Settles the first steps, so many at most, and gives how many."""
         place, tried = most, 0
         while place > 0:
             try:
-                settle(self._steps[:place])
+                settle(self.steps[:place])
                 break
             except Conflict as why:
                 tried += 1
@@ -355,12 +358,12 @@ class Pace:
 
     def _set_times(self) -> None:
         """Sets the times of all lines and actions to those of the steps."""
-        for step, advance in self._advances.items():
+        for step, advance in self.advances.items():
             advance.is_told = step.advances
             advance.to.seconds, advance.by.seconds = seconds_of(step.time), seconds_of(step.by)
-        for entry, due, delay in self._waiting:
+        for entry, due, delay in self.waiting:
             due.seconds, delay.seconds = seconds_of(entry.due), seconds_of(max(0, entry.due - entry.at))
-        for action, before, (entry, _, delay) in self._moved:
+        for action, before, (entry, _, delay) in self.moved:
             is_delayed = entry.before is before and entry.due >= before.due
             action[0] = "delayCall" if is_delayed else "resetCall"
             if is_delayed:

@@ -104,6 +104,8 @@ class Loop:
         self.is_loose = False
         #: how many of its turns were missed before the beginning of the told time
         self.missed = 0
+        #: its number in the notes of the run, if these are written
+        self.noted_as = -1
         #: the reactor's time, in seconds, before which Twisted doesn't have the turn be due for which it waits
         self.earliest = 0.0
         #: the time at which it is recorded to start
@@ -141,6 +143,8 @@ class Entry:
         self.tick = tick
         #: whether an advance goes on that may run it still
         self.inside = False
+        #: its number in the notes of the run, if these are written
+        self.noted_as = -1
         #: when it is recorded to be scheduled, and to be due
         self.at = 0
         self.due = 0

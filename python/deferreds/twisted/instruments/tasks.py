@@ -82,6 +82,8 @@ class Cooperating:
         self.delay = 0.0
         #: on a Clock: the ticks that are scheduled, the last one last
         self.calls: List[OwnCall] = []
+        #: its number in the notes of the run, if these are written
+        self.noted_as = -1
 
     @property
     def cooperator(self) -> Any:
@@ -101,11 +103,11 @@ class Cooperating:
 
     def word(self, word: str, end: str = "") -> Thing:
         """The first words of a line: those of a Cooperator with a name have another word, and the name."""
-        return _Word(self, word + end, f"{word}in {{}}{end}")
+        return Word(self, word + end, f"{word}in {{}}{end}")
 
     def task_line(self, made: Thing) -> Line:
         """The line that a task is made."""
-        return _Word(self, "task ", "taskin "), made, _Word(self, "", " {}")
+        return Word(self, "task ", "taskin "), made, Word(self, "", " {}")
 
     def takes(self, made_at: Any, delay: float) -> bool:
         """Whether it can be another Cooperator, made there, whose ticks are due after so many seconds."""
@@ -136,20 +138,20 @@ class Cooperating:
         self.unnamed.clear()
 
 
-class _Word(Thing):
+class Word(Thing):
     """A part of a line, which is another one where the Cooperator has a name by the time that the line is said."""
 
     def __init__(self, cooperating: Cooperating, unnamed: str, named: str) -> None:
         super().__init__(unnamed)
         self.inner = cooperating.inner
-        self._cooperating = cooperating
-        self._named = named
+        self.cooperating = cooperating
+        self.named = named
 
     @property
     def name(self) -> str:
         """The part."""
-        thing = self._cooperating.thing
-        return self.own_name if thing is None else self._named.format(thing.name)
+        thing = self.cooperating.thing
+        return self.own_name if thing is None else self.named.format(thing.name)
 
 
 class Cooperators:

@@ -38,6 +38,9 @@ class Body(Begun):
 class Steps:
     """What the program hands to a Cooperator: the bodies of the steps of a task."""
 
+    #: its number in the notes of the run, if these are written
+    noted_as = -1
+
     def __init__(self, depth: int = 0) -> None:
         self.depth = depth
         self.bodies: List[Body] = []
@@ -59,6 +62,9 @@ class Run(Frame):
 
     #: how it ended, or None, where its input was passed on
     end: Any = None
+    #: its number in the notes of the run, if these are written, and how many of its actions are in them
+    noted_as = -1
+    written = 0
 
     def __init__(self, kind: str, given: Optional[Outcome] = None, depth: int = -1, began: int = 0) -> None:
         self.kind = kind
@@ -118,7 +124,8 @@ class Run(Frame):
 
 know_attributes(Body("event"), ("name", "alias", "helper"))
 know_attributes(
-    Run("event"), ("end", "has_fired", "record", "awaits", "outer", "present", "anonymous", "passing", "expected")
+    Run("event"),
+    ("end", "has_fired", "record", "awaits", "outer", "present", "anonymous", "passing", "expected", "noted_as", "written"),
 )
 
 #: the kinds of bodies that aren't nested where their objects are recorded as what they are made of, and the kinds of these

@@ -133,6 +133,10 @@ class Place:
         earlier = self._wanted.with_name(self._wanted.name + _LIST)
         return f"the recording that was there is as it was: {self._short(self._wanted)}" if os.path.lexists(earlier) else ""
 
+    def name_with(self, ending: str) -> Path:
+        """The path of the file with this ending."""
+        return self._path(ending)
+
     def _path(self, ending: str) -> Path:
         return self.name.with_name(self.name.name + ending)
 

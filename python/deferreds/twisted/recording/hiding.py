@@ -39,9 +39,10 @@ class Hiding:
         self.hides_all = choice == ALL
         self.hides_secrets = choice == SECRETS
         self._values: Dict[Tuple[type, Any], str] = {}
-        self._secrets: Dict[str, str] = {}
+        #: the secrets that were seen, and their names
+        self.secrets: Dict[str, str] = {}
         #: those of the secrets that are hidden where they are a part of a text, too
-        self._firm: Dict[str, str] = {}
+        self.firm: Dict[str, str] = {}
 
     def value(self, value: Any) -> str:
         """The name of a value that is hidden: `value_1`, `value_2`, .."""
@@ -59,8 +60,8 @@ class Hiding:
         if not self.hides_secrets:
             return text
         length = len(text)
-        if self._secrets and length >= _SHORTEST_AGAIN:
-            known = self._secrets.get(text)
+        if self.secrets and length >= _SHORTEST_AGAIN:
+            known = self.secrets.get(text)
             if known is not None:
                 return known
         if length < _SHORTEST or (length < _SHORTEST_PLAIN and text.isalnum()):
@@ -85,10 +86,10 @@ class Hiding:
         return name
 
     def _known(self, text: str, is_prose: bool) -> str:
-        name = self._secrets.setdefault(text, f"<secret_{len(self._secrets) + 1}>")
+        name = self.secrets.setdefault(text, f"<secret_{len(self.secrets) + 1}>")
         least = _SHORTEST_WORD if text.isalpha() else _SHORTEST_PART
         if not is_prose and len(text) >= least:
-            self._firm[text] = name
+            self.firm[text] = name
         return name
 
     def names_secret(self, text: object) -> bool:
@@ -101,7 +102,7 @@ class Hiding:
 
     def afterwards(self) -> Optional[Again]:
         """What hides the secrets that are known by now in all texts of the run; None if there are none."""
-        return Again(self._secrets, self._firm) if self._secrets else None
+        return Again(self.secrets, self.firm) if self.secrets else None
 
 
 class Again:

@@ -16,6 +16,9 @@ from .endings import signals_waiting
 from .keeping import Keeping, Status
 from .last import LastRecorder
 from .messages import file_of
+from .noted import noted
+from .notes import NOTES, NotesFile
+from .noting import NotedRecorder
 from .originals import Originals
 from .recorder import Recorder, growth
 from .room import Reserve, memory_left
@@ -39,7 +42,11 @@ _EACH_PARTS = 1 << 15
 _BYTES_OF_PART = 320
 _BYTES_OF_RUN = 32 << 20
 
+#: how many bytes of memory it takes to make the recording of a byte of notes
+_BYTES_OF_NOTE = 16
+
 _SHORT = "memory is short"
+_ASKED = "asked by SIGUSR1"
 
 
 def _forked() -> int:
@@ -52,11 +59,16 @@ def _forked() -> int:
 class Keeper:
     """Keeps what a recorder has of this process; a forked child keeps only what it has itself done, too."""
 
-    def __init__(self, recorder: Recorder, keeping: Keeping, before: Optional[Keeping] = None) -> None:
-        """`before`: where the recording of one that the recorder has taken over from is kept."""
+    def __init__(
+        self, recorder: Recorder, keeping: Keeping, before: Optional[Keeping] = None, notes: Optional[NotesFile] = None, keeps_notes: bool = False
+    ) -> None:
+        """`before`: where the recording of one that the recorder has taken over from is kept. `notes`: where those of a recorder are written
+        that makes some, and `keeps_notes` whether they stay when the recording is written."""
         self._recorder = recorder
         self._keeping = keeping
         self._before = before
+        self._notes = notes
+        self._keeps_notes = keeps_notes
         self._originals = Originals()
         self._is_busy = False
         self._is_snapshot = False
@@ -72,7 +84,16 @@ class Keeper:
     def take_over(self, recorder: Recorder) -> None:
         """From here on this one records."""
         self._recorder = recorder
-        growth.look, growth.looks_at = self._look, _EACH_PARTS
+        if isinstance(recorder, NotedRecorder) and self._notes is not None:
+            recorder.noting.begin(self._notes, self._stop_noting)
+        else:
+            growth.look, growth.looks_at = self._look, _EACH_PARTS
+
+    def _stop_noting(self, why: str) -> None:
+        """No more notes can be made: the recording ends before the program."""
+        self._keeping.messages.say(f"the program goes on, and the recording ends here: {why}")
+        with signals_waiting():
+            self._recorder.stop()
 
     def _look(self, recorder: Recorder) -> None:
         """Ends the recording before the program, if what memory is left is only enough to write it."""
@@ -108,16 +129,41 @@ class Keeper:
                 return self._keep(how, self._ended(frame))
         except MemoryError:
             self._recorder.forget()
-            self._keeping.say_lost("out of memory")
+            self._say_lost("out of memory")
             return Status.NOT_WRITTEN
         except Exception as error:  # (whatever it is, the program ends as it would)
-            self._keeping.say_lost(f"{type(error).__name__}: {error}")
+            self._say_lost(f"{type(error).__name__}: {error}")
             return Status.NOT_WRITTEN
         finally:
             self._is_busy = is_busy
 
+    def _say_lost(self, why: str) -> None:
+        """Says that the run can't be kept, but for its notes."""
+        self._keeping.say_lost(why)
+        if self._notes is not None and self._notes.is_there:
+            self._keeping.messages.say(f"{self._keeping.place.shown(NOTES)} has it: --from makes a recording of that")
+
+    def _keep_noted(self, recorder: NotedRecorder, notes: NotesFile, how: str, ended: Optional[int]) -> Status:
+        """Makes the recording of the notes, which aren't needed then."""
+        if self._is_snapshot:
+            notes.be_shared()
+        recorder.noting.finish(ended, how)
+        left = memory_left()
+        if left is not None and left < notes.size * _BYTES_OF_NOTE:
+            self._say_lost(_SHORT)
+            return Status.NOT_WRITTEN
+        found = noted(notes.read_all())
+        status = self._keeping.keep(Said(found.recorder, found.ended), how)
+        if status is Status.NOT_WRITTEN:
+            self._keeping.messages.say(f"{self._keeping.place.shown(NOTES)} stays: --from makes a recording of it")
+        elif not self._keeps_notes and how != _ASKED:
+            notes.remove()
+        return status
+
     def _keep(self, how: str, ended: Optional[int]) -> Status:
         recorder = self._recorder
+        if isinstance(recorder, NotedRecorder) and self._notes is not None:
+            return self._keep_noted(recorder, self._notes, how, ended)
         if not isinstance(recorder, LastRecorder):
             return self._keeping.keep(Said(recorder, ended), how)
         before = recorder.before
@@ -153,7 +199,7 @@ class Keeper:
     def _write_in_copy(self, frame: Optional[FrameType]) -> None:
         def write() -> None:
             if _forked() == 0:
-                self.ends("asked by SIGUSR1", frame)
+                self.ends(_ASKED, frame)
 
         self._writers = [one for one in self._writers if not self._has_written(*one)]
         try:
@@ -212,6 +258,8 @@ class Keeper:
             self._forked_at = self._recorder, len(self._recorder.parts)
             for keeping in filter(None, (self._keeping, self._before)):
                 keeping.be_of_child()
+            if self._notes is not None:
+                self._notes.be_of_child(self._keeping.place.name_with(NOTES))
 
     def _ended(self, frame: Optional[FrameType]) -> Optional[int]:
         """How many events have ended, where one is under way; None, where all have."""

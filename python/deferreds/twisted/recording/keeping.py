@@ -26,6 +26,10 @@ from .saying import Said
 _MOST_PLACES = 3
 
 
+#: how a run has ended of which the notes don't say that
+NOT_NOTED = "after its notes"
+
+
 class Status(enum.IntEnum):
     """The result of a recording, as the status of the command."""
 
@@ -44,6 +48,8 @@ class Keeping:
         self.messages = messages
         #: how many children this process has forked
         self.children = 0
+        #: the versions with which the run was recorded
+        self.twisted, self.python = str(twisted.__version__), platform.python_version()
         self._view = view
         self._asked = asked
 
@@ -149,8 +155,8 @@ class Keeping:
     def _facts(self, said: Said, how: str, earlier: int, compared: str) -> Dict[str, Any]:
         """What the list of the files says of the recording."""
         return {
-            "twisted": str(twisted.__version__),
-            "python": platform.python_version(),
+            "twisted": self.twisted,
+            "python": self.python,
             "ended": how,
             "earlier events": earlier,
             "events": len(said.begins),
@@ -193,6 +199,8 @@ def _cut_by(how: str) -> str:
     """What has ended a run, where that isn't the program itself: it may have hung, or have had more to do."""
     if how == f"status {-signal.SIGINT}":
         return "Ctrl-C"
+    if how == NOT_NOTED:
+        return "the end of its notes"
     return how.split()[-1] if how.startswith(("SIG", "asked by ")) else ""
 
 

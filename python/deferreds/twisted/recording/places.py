@@ -25,6 +25,8 @@ from ..telling import Thing
 Spot = Tuple[Any, ...]
 
 _LONGEST = 24
+#: and the longest name of a thing, before a number
+_LONGEST_OF_THING = 27
 
 #: what stands in a function as a part of it
 _INNER = {"<listcomp>", "<genexpr>", "<dictcomp>", "<setcomp>"}
@@ -117,8 +119,8 @@ class Spots:
 
     def __init__(self) -> None:
         #: three items for each: the action or the Deferred, the code, and the instruction
-        self._noted: List[Any] = []
-        self._note = self._noted.extend
+        self.noted: List[Any] = []
+        self._note = self.noted.extend
         #: what was noted last where the program itself is in a file of its own
         self._last: object = None
         #: the names of things, once there is one
@@ -126,10 +128,17 @@ class Spots:
 
     def thing(self, kind: str, made_at: Spot) -> Thing:
         """Something of this kind that is made there, with a name."""
+        return self._late_names().thing(kind, made_at)
+
+    def free_names(self) -> FreeNames:
+        """The names that things have."""
+        return self._late_names().names
+
+    def _late_names(self) -> LateNames:
         names = self._names
         if names is None:
             names = self._names = LateNames()
-        return names.thing(kind, made_at)
+        return names
 
     def note(self, action: object, first: int) -> None:
         """An action runs, which isn't one that makes a Deferred: that is located.
@@ -150,7 +159,7 @@ class Spots:
 
     def of_last(self, action: object, maker: Optional[str]) -> Optional[Spot]:
         """Where Twisted makes a Deferred while this action runs; None, where `locate` has to find that."""
-        noted = self._noted
+        noted = self.noted
         if action is None or self._last is not action or noted[-3] is not action:
             return None
         code = noted[-2]
@@ -187,7 +196,7 @@ class Spots:
 
     def forget(self) -> None:
         """Keeps nothing of what was noted."""
-        self._noted.clear()
+        self.noted.clear()
         self._last = None
 
     def all(self, made: Iterable[Tuple[object, Optional[Spot]]]) -> Iterator[Tuple[Any, str, int]]:
@@ -195,17 +204,29 @@ class Spots:
 
         `made` are the Deferreds, with what `locate` has given for them.
         """
-        noted = self._noted
+        noted = self.noted
         for at in range(0, len(noted), 3):
             if noted[at + 1].co_filename not in _RUNNING:
-                yield noted[at], self._path(noted[at + 1]), line_of(noted[at + 1], noted[at + 2])
+                yield noted[at], path_of(noted[at + 1]), line_of(noted[at + 1], noted[at + 2])
         for record, spot_ in made:
             code = spot_[1] if spot_ is not None else None
             if spot_ is not None and code is not None and _OWN_FILES[code.co_filename]:
-                yield record, self._path(code), line_of(code, spot_[2])
+                yield record, path_of(code), line_of(code, spot_[2])
 
-    def _path(self, code: CodeType) -> str:
-        return os.path.join(_FOLDER, code.co_filename)
+
+def path_of(code: CodeType) -> str:
+    """The whole path of the file of a code."""
+    return os.path.join(_FOLDER, code.co_filename)
+
+
+def is_own(file: str) -> bool:
+    """Whether a file is the program's own, or that of a reactor's loop."""
+    return _OWN_FILES[file]
+
+
+def is_running(file: str) -> bool:
+    """Whether a file is that of a loop which runs what is due."""
+    return file in _RUNNING
 
 
 def program_frame(inside: int = 0) -> Optional[FrameType]:
@@ -257,14 +278,24 @@ def name_of_spot(made_at: Spot) -> str:
 _LINES: Dict[int, Tuple[CodeType, List[int], List[int]]] = {}
 
 
-def line_of(code: CodeType, instruction: int) -> int:
-    """The line of an instruction, by its place in the code."""
+def lines_of(code: CodeType) -> Tuple[CodeType, List[int], List[int]]:
+    """The code, where its instructions of each line begin, and the lines."""
     known = _LINES.get(id(code))
     if known is None:
         found = [(start, line) for start, line in dis.findlinestarts(code) if line is not None]
         starts, lines = [start for start, _ in found], [line for _, line in found]
         known = _LINES[id(code)] = code, starts or [0], lines or [code.co_firstlineno]
-    _, starts, lines = known
+    return known
+
+
+def know_lines(code: Any, starts: List[int], lines: List[int]) -> None:
+    """Has the lines of what stands for a code be known."""
+    _LINES[id(code)] = code, starts, lines
+
+
+def line_of(code: CodeType, instruction: int) -> int:
+    """The line of an instruction, by its place in the code."""
+    _, starts, lines = lines_of(code)
     return lines[max(0, bisect.bisect_right(starts, instruction) - 1)]
 
 
@@ -273,6 +304,11 @@ def _in_form(function: str) -> str:
     """The name of a function, in the form of names and with room for a line."""
     name = re.sub(r"[^A-Za-z0-9_]+", "", function)
     return "line" if name in ("", "module") else name[: _LONGEST - 6]
+
+
+def wanted_name(kind: str, made_at: Spot) -> str:
+    """A name for a thing of this kind that was made there, which others may want, too."""
+    return f"{kind}_{name_of_spot(made_at)}"[:_LONGEST_OF_THING]
 
 
 class FreeNames:
@@ -291,7 +327,7 @@ class LateNames:
     """Names things by where they are made, in the order in which they are. The names are worked out where one is asked for."""
 
     def __init__(self) -> None:
-        self._names = FreeNames()
+        self.names = FreeNames()
         #: what has no name yet
         self._made: List[Tuple[Thing, str, Spot]] = []
 
@@ -304,4 +340,4 @@ class LateNames:
     def _find(self) -> None:
         made, self._made = self._made, []
         for thing, kind, made_at in made:
-            thing.own_name, thing.find_name = self._names.give(f"{kind}_{name_of_spot(made_at)}"[:27]), None
+            thing.own_name, thing.find_name = self.names.give(wanted_name(kind, made_at)), None

@@ -112,10 +112,12 @@ class Growth:
     (A recorder has as many attributes as Python finds soon.)
     """
 
-    __slots__ = ("looks_at", "look")
+    __slots__ = ("looks_at", "look", "inside")
 
     def __init__(self) -> None:
         self.looks_at = sys.maxsize
+        #: how many actions are run inside others, in Twisted's own code
+        self.inside = 0
         self.look: Callable[[Recorder], None] = lambda recorder: None
 
 
@@ -418,9 +420,11 @@ class Recorder(Observer):
         kept = frame.expected, frame.anonymous, frame.passing, self._told, self.forwarded, self.turn, self.maker
         frame.expected, frame.anonymous, frame.passing, self.forwarded, self.turn = (), False, None, None, None
         self.acting = False
+        growth.inside += 1
         try:
             return self.act(action, call, *args)
         finally:
+            growth.inside -= 1
             self.acting, self.ended = True, ended
             frame.expected, frame.anonymous, frame.passing, self._told, self.forwarded, self.turn, self.maker = kept
             if uncalled and any(part is one for part in self.parts[before:] if part is not None for one in busy):
@@ -702,10 +706,10 @@ class Recorder(Observer):
         return ["raise", self.classes.name_of(type(error)), self.texts.message(error)]
 
 
-know_attributes(
-    Recorder(),
-    ("is_on", "thread", "_told", "gave", "forwarded", "turn", "_clock", "clock_base", "cooperator"),
-)
+#: the attributes that a recorder may get later
+LATER = ("is_on", "thread", "_told", "gave", "forwarded", "turn", "_clock", "clock_base", "cooperator")
+
+know_attributes(Recorder(), LATER)
 
 
 def _is_waited_for(frame: Run, result: object) -> bool:

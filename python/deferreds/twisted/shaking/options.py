@@ -47,6 +47,8 @@ def problem_of(arguments: argparse.Namespace) -> str:
         return "with --test --seed needs --shake"
     if arguments.shake is None and (arguments.until is not None or arguments.within is not None):
         return "--until and --within are for --shake"
+    if arguments.shake is not None and (arguments.notes or arguments.keep_notes):
+        return "--shake and --notes don't go together"
     return "--shake and --last don't go together" if arguments.shake is not None and arguments.last is not None else ""
 
 
