@@ -185,7 +185,7 @@ def _check(arguments: argparse.Namespace) -> None:
 def _check_from(arguments: argparse.Namespace, has_program: bool) -> None:
     """Raises Refused if something stands beside --from that is decided when the notes are written."""
     others = [arguments.redact, arguments.plain, arguments.last, arguments.virtual, arguments.notes, arguments.keep_notes]
-    others += [arguments.shake, arguments.seed]
+    others += [arguments.shake is not None, arguments.seed is not None]
     if has_program or any(others):
         raise Refused(USAGE, "--from runs nothing, and goes with -o, -f and --view alone: the notes say the rest")
 
