@@ -47,6 +47,8 @@ SAME = (
     ("raises.py",),
     ("random_calls.py", "3", "200"),
     ("--redact", "all", "awkward/long_values.py"),
+    ("--virtual", "loops_that_differ.py", "once"),
+    ("--virtual", "loops_that_differ.py", "raises"),
     ("--virtual", "poll_by_callbacks.py"),
 )
 ENDINGS = (".json", ".journal", ".whole.journal", ".places.json", ".html")
@@ -172,7 +174,9 @@ class Killed(RecordingCase):
 
     def test_wherever_it_is_killed_a_good_beginning_is_left(self) -> None:
         chosen, kept = random.Random(1), 0
-        for number in range(12):
+        for number in range(60):
+            if number >= 12 and kept > 4:
+                break
             process = self.start("-o", f"run{number}", "--notes", "random_calls.py", str(number), "3000")
             notes = self.folder / f"run{number}.notes"
             wanted = chosen.randrange(1, 60_000)
