@@ -2,6 +2,7 @@
 
 from __future__ import annotations
 
+import gc
 import os
 import signal
 import sys
@@ -170,6 +171,7 @@ class RunsTest(unittest.TestCase):
             fail(ValueError("c"))  # (which nobody handles)
             return 0
 
+        gc.collect()  # what other tests have dropped isn't the run's
         self.assertEqual(run(program, 20.0).errors, Counter(["KeyError", "without a failure", "ValueError"]))
 
 
