@@ -21,7 +21,8 @@ from deferreds.twisted.recording.saying import Said
 from deferreds.twisted.recording.windows import Window, windowed
 from deferreds.twisted.running import run
 
-from .recording_of import RecordingCase
+from .forked import environment, run as run_python
+from .recording_of import PROGRAMS, RecordingCase
 
 #: programs that do the same in each run, with their arguments
 SAME = (
@@ -157,6 +158,21 @@ class Recordings(RecordingCase):
         self.assert_goes_together("run")
 
 
+class Remembered(RecordingCase):
+    """What notes say is what a recorder would have in memory of the same run."""
+
+    def test_of_one_and_the_same_run(self) -> None:
+        programs = ("echo", "times_of_a_reactor", "loops_that_meet", "loops_that_differ", "cooperators_as_events", "loop_that_asks_a_thread")
+        for name in (*programs, "asyncio_tasks", "cooperators_at_odds", "answers_and_idles 0.2", "awkward/several_cooperators", "awkward/inline_drops"):
+            with self.subTest(program=name):
+                program, *words = name.split()
+                room = self.folder / program.replace("/", "_")
+                room.mkdir()
+                words = ["-m", "tests.remembering", str(room), str(PROGRAMS / f"{program}.py"), *words]
+                ended = run_python(words, self.folder, environment())
+                self.assertRegex(ended.stdout.splitlines()[-1], "^the same, [1-9]", ended.stderr)
+
+
 class Killed(RecordingCase):
     """What is left of a run that is killed."""
 
@@ -173,21 +189,21 @@ class Killed(RecordingCase):
         self.assert_goes_together("run")
 
     def test_wherever_it_is_killed_a_good_beginning_is_left(self) -> None:
-        chosen, kept = random.Random(1), 0
-        for number in range(60):
-            if number >= 12 and kept > 4:
-                break
-            process = self.start("-o", f"run{number}", "--notes", "random_calls.py", str(number), "3000")
+        chosen, lengths = random.Random(1), set()
+        for number in range(12):
+            process = self.start("-o", f"run{number}", "--notes", "goes_on.py", "1000000")
             notes = self.folder / f"run{number}.notes"
-            wanted = chosen.randrange(1, 60_000)
-            self.wait_for(lambda: (notes.exists() and notes.stat().st_size >= wanted) or process.poll() is not None, "some notes")
+            wanted = chosen.randrange(1, 150_000)
+            self.wait_for(lambda: notes.exists() and notes.stat().st_size >= wanted, "some notes")
             process.kill()
-            self.end(process)
-            if notes.exists():
-                found = noted(read_notes(notes))
-                self.assertEqual(found.how, "")
-                kept += self.is_a_beginning(Said(found.recorder, found.ended))
-        self.assertGreater(kept, 4)
+            self.assertEqual(self.end(process).status, -signal.SIGKILL)
+            found = noted(read_notes(notes))
+            self.assertEqual(found.how, "")
+            said = Said(found.recorder, found.ended)
+            lengths.add(said.lines)
+            if said.lines:
+                self.assertTrue(self.is_a_beginning(said))
+        self.assertGreater(len(lengths), 6)
 
     def is_a_beginning(self, said: Said) -> bool:
         """Whether there is a script, which has to print its journal on real Twisted if it reaches no entry of docs/TWISTED.md."""

@@ -1,4 +1,9 @@
-"""Answers requests in several turns of the reactor, by inline bodies, a task, a job and calls. Then it prints `idle`, and waits."""
+"""Answers requests in several turns of the reactor, by inline bodies, a task, a job and calls. Then it prints `idle`, and waits.
+
+With an argument it ends after so many seconds more.
+"""
+
+import sys
 
 from twisted.internet import defer, reactor, task, threads
 
@@ -45,6 +50,8 @@ def main():
     call.delay(60)
     call.reset(50)
     print("idle", flush=True)
+    if sys.argv[1:]:
+        reactor.callLater(float(sys.argv[1]), reactor.stop)
 
 
 worker()

@@ -364,10 +364,13 @@ def _from_notes(arguments: argparse.Namespace, messages: Messages) -> int:
         raise Refused(Status.REFUSED, f"{path} can't be read: {why}") from None
     except MemoryError:
         raise Refused(Status.NOT_WRITTEN, f"{path} can't be read: out of memory") from None
-    except Exception as error:  # (notes whose parts don't go together may have anything fail)
+    except Exception as error:  # (notes that don't go together may have anything fail)
         raise Refused(Status.REFUSED, f"{path} can't be read: its notes don't go together ({type(error).__name__})") from None
     keeping.twisted, keeping.python = found.twisted, found.python
-    return keeping.keep(said, found.how or NOT_NOTED)
+    try:
+        return keeping.keep(said, found.how or NOT_NOTED)
+    except Exception as error:
+        raise Refused(Status.REFUSED, f"no recording can be made of {path} ({type(error).__name__})") from None
 
 
 def _test(arguments: argparse.Namespace, messages: Messages) -> int:

@@ -37,7 +37,8 @@ _OF_JOBS = frozenset({"thread", "threadIn"})
 
 _length: Callable[[List[Any]], int] = list.__len__
 #: as plain numbers, which Python finds sooner
-_RECORD, _BODY, _OUTCOME, _SPOT = int(Tag.RECORD), int(Tag.BODY), int(Tag.OUTCOME), int(Word.SPOT)
+_RECORD, _BODY, _OUTCOME, _SPOT, _RUN = int(Tag.RECORD), int(Tag.BODY), int(Tag.OUTCOME), int(Word.SPOT), int(Word.RUN)
+_BODIES, _RECORDS = int(Kind.BODY), int(Kind.RECORD)
 
 
 class NotedSpots(Spots):
@@ -71,12 +72,14 @@ class NotedRecorder(Recorder):
 
     def new_body(self, kind: str, is_deep: bool = False) -> Any:
         """A body that the program hands to Twisted, which has a number."""
+        if kind == "callback" and not is_deep:
+            return self.noting.new_body(kind, self.frame.depth + 1)
         body = super().new_body(kind, is_deep)
-        return self.noting.number_body(body) if isinstance(body, Body) else self.noting.number_steps(body)
+        return self.noting.new_body(kind, body.depth) if isinstance(body, Body) else self.noting.number_steps(body)
 
     def begin_step(self, steps: Any) -> Body:
         """A step of a task begins."""
-        body = self.noting.number_body(Body("step", steps.depth))
+        body = self.noting.new_body("step", steps.depth)
         steps.bodies.append(body)
         self.noting.steps_going[id(steps)] = steps
         return body
@@ -256,12 +259,13 @@ class Noting:
 
     # numbers
 
-    def number_body(self, body: Body) -> NotedBody:
-        """The body, with a number."""
-        number = self._counts[Kind.BODY]
-        self._counts[Kind.BODY] += 1
-        self._bodies += (body.kind, body.depth)
-        return NotedBody(body.kind, body.depth, Runs(number, self._note_begun))
+    def new_body(self, kind: str, depth: int) -> NotedBody:
+        """A body, with a number."""
+        counts = self._counts
+        number = counts[_BODIES]
+        counts[_BODIES] = number + 1
+        self._bodies += (kind, depth)
+        return NotedBody(kind, depth, Runs(number, self._note_begun))
 
     def number_steps(self, steps: Steps) -> Steps:
         """Likewise steps."""
@@ -428,8 +432,11 @@ class Noting:
             self._steps.clear()
         self._note_things()
         records = self._recorder.records.here  # type: ignore[attr-defined]
+        counts = self._counts
         for record in records:
-            self._number(record, Kind.RECORD)
+            if record.noted_as < 0:
+                record.noted_as = counts[_RECORDS]
+                counts[_RECORDS] += 1
         self._note_records(records, True)
 
     def _note_things(self) -> None:
@@ -456,13 +463,18 @@ class Noting:
     def _note_records(self, records: Sequence[Record], are_made: bool) -> None:
         if not records:
             return
-        out = self._out
+        out, codes = self._out, self._codes
         out += (int(Word.RECORDS), len(records))
         for record in records:
             made_in: Any = record.made_in
-            out += (record.noted_as, are_made, record.name, getattr(made_in, "noted_as", NONE))
-            out.append(self._record_number(record.hidden_of))
-            self._spot(record.made_at)
+            hidden_of, made_at = record.hidden_of, record.made_at
+            number = NONE if hidden_of is None else self._record_number(hidden_of)
+            out += (record.noted_as, are_made, record.name, getattr(made_in, "noted_as", NONE), number)
+            known = codes.get(id(made_at[1])) if made_at is not None else None
+            if made_at is not None and known is not None:
+                out += (made_at[0], known[0], made_at[2])
+            else:
+                self._spot(made_at)
 
     def _spot(self, made_at: Optional[Tuple[Any, ...]]) -> None:
         """Where something was made: the name of the function, its code, and the instruction."""
@@ -504,7 +516,7 @@ class Noting:
     def _note_runs(self) -> None:
         going = [run for run in self.going.values() if run.noted_as < self._counted[Kind.RUN]]
         for runs, run in self.begun:
-            self._out += (int(Word.RUN), run.noted_as, runs.number, run.kind, run.depth, run.began)
+            self._out += (_RUN, run.noted_as, runs.number, run.kind, run.depth, run.began)
             self._part(run.given)
             self._rest_of_run(run, run.actions)
         for run in going:
@@ -517,7 +529,10 @@ class Noting:
             self._out += [body.runs.number for body in steps.bodies]  # type: ignore[attr-defined]
 
     def _rest_of_run(self, run: Run, actions: Sequence[Action]) -> None:
-        self._part(run.end)
+        if run.end is None:
+            self._out.append(None)
+        else:
+            self._part(run.end)
         self._out.append(len(actions))
         for action in actions:
             self._new_action(action)
@@ -544,8 +559,7 @@ class Noting:
             elif kind is int:
                 append(part << BITS)
             elif kind is Outcome and type(part.value) is int:
-                append(_OUTCOME)
-                append(part.value << BITS)
+                out += (_OUTCOME, part.value << BITS)
             else:
                 part_of(part)
         failed = [action.noted_as for action in recorder.failed if action.noted_as >= 0]
