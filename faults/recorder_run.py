@@ -77,6 +77,8 @@ class Sweep:
                 faults.close()
                 _signal.signal(signal.SIGTERM, handler)
                 keeper._is_snapshot = False
+                if keeper._notes is not None:  # (each has its own file of them, which begins with what is there)
+                    keeper._notes.be_of_child(keeper._notes.path)
                 self._begin(room, printed, keeper._keeping.messages)
                 return fault
             end = self._waited(child, room)

@@ -52,6 +52,7 @@ RECORDED: Tuple[Tuple[str, ...], ...] = (
     ("--view", "awkward/finalizer_meddles.py"),
     ("awkward/loop_of_other_values.py",),
     ("--last", "2", "tickers.py"),
+    ("--notes", "awkward/several_cooperators.py"),
 )
 SAMPLE = (RECORDED[0], RECORDED[9])
 
