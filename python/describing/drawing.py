@@ -24,7 +24,7 @@ FILE = Path(SHELL)
 
 #: the modules, each after those that it uses
 MODULES = (
-    "sources sizes places phrases texts lines records nesting causes world fold sections batches left facts durations hanging units "
+    "sources units sizes places phrases texts lines records nesting causes world fold sections batches left facts durations hanging "
     "scripts findings bodies tokens sites overtaken after_cancel inferred report stories run events layout folding markup shapes ruler chart windows axis outcomes page"
 ).split()
 

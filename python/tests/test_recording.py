@@ -293,7 +293,7 @@ class Shown(unittest.TestCase):
             ran = forked.run([*command, "-o", str(name), str(example)], folder, forked.environment())
             self.assertEqual(ran.returncode, 0, ran.stderr)
             page = Path(f"{name}.html").read_text(encoding="utf-8")
-        self.assertIn("122 lines, 14 Deferreds, 15 events, time 0 to 6", page)
+        self.assertIn("122 lines, 14 Deferreds, 15 events, 6 s, a tick is 1 s", page)
         self.assertIn("event 0  <b><bdi>inline worker_56 ", page)
 
 

@@ -343,7 +343,7 @@ class PytestTest(TestingTest):
                 "test_fails": "failed",
                 "test_unhandled": f"left behind: #0·test_unhandled_{line_of(_PLAIN, 'fail(ValueError')} ends with ValueError \"no\"",
                 "test_call": f"left behind: delayed call call_test_call_{line_of(_PLAIN, 'clock.callLater(5')} is due at 5, "
-                "and time has come to 1",
+                "and the run ended at 1",
                 "test_teardown_fails": "failed",
                 "test_sets_a_result_by_hand": f"left behind: nobody fired #0·test_sets_a_result_{line_of(_PLAIN, 'd.result = 5') - 1}; "
                 "a script can't say this: the result of a Deferred is set by hand, "

@@ -45,9 +45,9 @@ class Spent(unittest.TestCase):
 
     def test_the_outcomes_say_it_with_seconds(self) -> None:
         run = of(_TAKES)
-        self.assertIn("<td class=why>unfired 30 ticks, waited 170 ticks, 2 sides</td>", written_page(run))
+        self.assertIn("<td class=why>unfired 30 ticks, waited 170 ticks, 2 callbacks</td>", written_page(run))
         run.tick = "1/4 s"
-        self.assertIn("<td class=why>unfired 7.5 s, waited 42.5 s, 2 sides</td>", written_page(run))
+        self.assertIn("<td class=why>unfired 7.5 s, waited 42.5 s, 2 callbacks</td>", written_page(run))
 
     def test_seconds(self) -> None:
         said = [in_seconds(count, tick) for count, tick in ((1, ""), (1, "1 ms"), (0, "1 ms"), (1, "1 µs"), (12345, "1 s"), (1, "1/3 s"), (10**15, "1 ns"))]

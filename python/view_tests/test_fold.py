@@ -143,7 +143,7 @@ class Fold(unittest.TestCase):
             (["later call c 1", "new #0 a", "advance 1", "call c", "fire #0 ok 1"], "after call c, 3"),
             (
                 ["new #0 a", "new #1 b", "add #0", "fire #0 ok 1", "run #0", "fire #1 ok 2"],
-                "a side of #0",
+                "a callback of #0",
             ),
         ]
         for lines, cause in cases:

@@ -147,7 +147,7 @@ class ShownTest(unittest.TestCase):
         listed = {"tick": "250 ms", "files": {"run.json": "0", "run.journal": "1"}}
         self.write("run.recording", json.dumps(listed))
         for words in (self.journal(), self.journal()[:2]):
-            self.assertIn("time 0 to 0, a tick is 250 ms\n", self.view("--text", *words).output)
+            self.assertIn("0 s, a tick is 250 ms\n", self.view("--text", *words).output)
             self.assertIn("a tick is 250 ms", self.page(*words))
         wrong = ("<b>", "1 ms</span><script>", "\u202e1 ms", "0 ms", "1  ms", 5, None, ["1 ms"])
         for text in ("{", "[]", "5", "[" * 100_000, *(json.dumps({**listed, "tick": tick}) for tick in wrong), json.dumps({**listed, "files": {}})):

@@ -170,10 +170,10 @@ class OfJournals(unittest.TestCase):
             of_journal(*lines),
             [
                 "unfired nobody fired #1·d (line 7)",
-                "call delayed call c is due at 5, and time has come to 0 (line 1)",
-                "timer the timer of #1·d is due at 7, and time has come to 0 (line 8)",
-                "tick a tick is due at 1, and time has come to 0 (line 3)",
-                "job the result of job 0 for #0·j is due at 9, and time has come to 0 (line 6)",
+                "call delayed call c is due at 5, and the run ended at 0 (line 1)",
+                "timer the timer of #1·d is due at 7, and the run ended at 0 (line 8)",
+                "tick a tick is due at 1, and the run ended at 0 (line 3)",
+                "job the result of job 0 for #0·j is due at 9, and the run ended at 0 (line 6)",
                 "task task t still takes turns (line 2)",
             ],
         )
@@ -182,7 +182,7 @@ class OfJournals(unittest.TestCase):
         lines = ["later call c 5", "reset c 9", "reset c 7", "advance 5"]
         self.assertEqual(
             of_journal(*lines),
-            ["call delayed call c is due at 7, and time has come to 5 (line 1) | it was reset in line 3"],
+            ["call delayed call c is due at 7, and the run ended at 5 (line 1) | it was reset in line 3"],
         )
         self.assertEqual(of_journal(*lines, "advance 7", "call c"), [])
         self.assertEqual(of_journal(*lines, "uncall c"), [])
@@ -302,7 +302,7 @@ class OfJournals(unittest.TestCase):
         self.assertEqual(
             found,
             [
-                "stopped the run stopped at the limit of its journal (line 4) | a side of #0·d, from line 4, hadn't ended"
+                "stopped the run stopped at the limit of its journal (line 4) | a callback of #0·d, from line 4, hadn't ended"
             ],
         )
 
@@ -317,7 +317,7 @@ class OfJournals(unittest.TestCase):
         self.assertEqual(
             report_of(run_of_journal(whole[:end], "test"))[0],
             "cut off the text ends before the outcomes of 3 of 3 Deferreds: how the run went on isn't known (line 6)"
-            " | a side of #0·d, from line 5, hadn't ended",
+            " | a callback of #0·d, from line 5, hadn't ended",
         )
         self.assertEqual(report_of(run_of_journal(whole[:-1], "test")), report_of(run_of_journal(whole, "test")))
 
@@ -413,8 +413,8 @@ class OfFacts(unittest.TestCase):
         self.assertEqual(
             found,
             [
-                "stopped the run stopped at the limit of its journal (line 6) | a side of #0·a, from line 4, hadn't ended"
-                " | a side of #1·b, from line 6, hadn't ended"
+                "stopped the run stopped at the limit of its journal (line 6) | a callback of #0·a, from line 4, hadn't ended"
+                " | a callback of #1·b, from line 6, hadn't ended"
             ],
         )
 

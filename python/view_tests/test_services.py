@@ -5,7 +5,9 @@ The programs are in `data/services` of this folder's parent, and were recorded i
 
 from __future__ import annotations
 
+import html
 import json
+import re
 import unittest
 from pathlib import Path
 from typing import Dict, List, NamedTuple
@@ -158,6 +160,39 @@ class ByLine(unittest.TestCase):
         at = lines.index("made at mailer.py:35")
         self.assertTrue(lines[at + 1].startswith("#4 work_35 ok ") or lines[at + 1].startswith("#3 work_35 ok "), lines[at + 1])
         self.assertEqual(sum(line.startswith("#") for line in lines), 30)
+
+
+class Words(unittest.TestCase):
+    """What pages and texts of recorded programs say: nothing of a script, which their users didn't write, and times in seconds."""
+
+    #: what must not be there, and what has to
+    unwanted = (r"\bsides? (of|runs?|ran)\b|\d sides?\b", r"\bweight\b", r"action of the script|actions of the script", r"/events/\d", r"\bgiven back\b|is given\b", r"\d ticks?\b", r"\de\+0\d")
+
+    def check(self, name: str, said: str) -> None:
+        for pattern in self.unwanted:
+            found = re.search(f".{{0,40}}(?:{pattern}).{{0,40}}", said)
+            self.assertIsNone(found, f"{name}: {found and found[0]}")
+
+    def test_none_of_them_is_on_a_page(self) -> None:
+        for name in (*_CAUSES, *(f"{name}_mended" for name in _MENDED)):
+            page = re.sub(r"(?s)<(script|style|pre)\b.*?</\1>", "", written_page(run_of_service(name)))
+            self.check(name, html.unescape(re.sub(r"<[^>]*>", "\n", page)))
+
+    def test_none_of_them_is_in_a_text_or_a_tree(self) -> None:
+        for name in _CAUSES:
+            run = run_of_service(name)
+            terminal = Terminal(run, False)
+            lines = [*terminal.lines(), *(line for number in list(run.fold.records)[::7] for line in terminal.tree(number))]
+            self.check(name, "\n".join(lines))
+
+    def test_times_are_seconds(self) -> None:
+        run = run_of_service("warehouse")
+        page, lines = written_page(run), list(Terminal(run, False).lines())
+        self.assertRegex(lines[1], r"^1296 lines, 151 Deferreds, 217 events, 1\.6\d\d s, a tick is 1 µs$")
+        self.assertTrue(any(line.split()[1:4] == ["0.001", "s", "advance"] for line in lines))
+        self.assertIn("<div class=what>  line  seconds   what happened</div>", page)
+        self.assertIn(">0.001</text>", page)
+        self.assertRegex(page, r"<text x=[\d.]+% y=12>0\.5 s</text>")
 
 
 class FirstScreen(InBrowser):

@@ -70,7 +70,7 @@ class Trees(unittest.TestCase):
         run = of(["new #0 a", "cancel #0", 'fire #0 fail CancelledError ""', "swallow #0", "refuse #0", "refuse #0"])
         self.assertEqual(signs(run, 0), ["1m0", "1a1", "1f2", "1s3", "1x4", "1x5"])
         head = next(iter(Terminal(run, False).tree(0)))
-        self.assertTrue(head.endswith("0 sides ran, 2 firings refused, 1 firing swallowed in line 4, line 5, line 6"), head)
+        self.assertTrue(head.endswith("0 callbacks ran, 2 firings refused, 1 firing swallowed in line 4, line 5, line 6"), head)
 
     def test_a_call_that_a_side_schedules_has_below_it_what_it_did(self) -> None:
         run = next(one.run for one in samples.told_by_the_program() if one.name == "retried")

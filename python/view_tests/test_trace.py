@@ -162,7 +162,7 @@ class Content(unittest.TestCase):
         )  # fmt: skip
         self.assertEqual(
             self._slices(run, FIRST),
-            [("unfired", 0, 3), ("ok 1", 3, 1), ("a side runs", 4, 1), ("waits for #1", 5, 4997), ('fail X ""', 5002, 1)],
+            [("unfired", 0, 3), ("ok 1", 3, 1), ("a callback runs", 4, 1), ("waits for #1", 5, 4997), ('fail X ""', 5002, 1)],
         )
         self.assertEqual(self._slices(run, FIRST + 1), [("unfired", 1, 5000), ('fail X ""', 5001, 1), ("hands over", 5002, 1)])
         self.assertEqual([one[0] for one in self._slices(run, EVENTS)], [f"event {event}" for event in range(6)])

@@ -64,11 +64,10 @@ class Axis:
         return f"{100 * time / self._end:.2f}".rstrip("0").rstrip(".")
 
     def _marks(self) -> Iterator[Html]:
-        """Times along the axis, each with the seconds that it was where the run was recorded."""
+        """Times along the axis: in seconds, if the run was recorded."""
         step = _round(-(-self._end // _MOST_MARKS))
         for time in range(0, self._end + 1, step):
-            seconds = in_seconds(time, self._run.tick)
-            said = f"{time}{f' · {seconds}' if seconds else ''}"
+            said = in_seconds(time, self._run.tick) or f"{time}"
             anchor = " class=last" if time * 100 > 92 * self._end else ""
             yield Html(f"<text{anchor} x={self._at(time)}% y=12>{said}</text>")
 

@@ -6,7 +6,7 @@ from typing import Dict, Iterator, List, Optional, Tuple
 
 from .left import At
 from .hanging import object_name
-from .phrases import OfDeferred, OfLine, OfScript, Part, Phrase, listed, words
+from .phrases import OfDeferred, OfLine, OfScript, OfTime, Part, Phrase, listed, words
 from .records import Record
 from .run import Run
 from .sizes import several
@@ -44,7 +44,7 @@ class Tree:
         spent = self._run.durations.of(record)
         paused = [f"paused {self._run.ticks(spent.paused)}"] if spent.paused else []
         parts = [f"unfired {self._run.ticks(spent.unfired)}", f"waited {self._run.ticks(spent.waited)}", *paused]
-        return ", ".join([*parts, f"{several(spent.sides, 'side', 'sides')} ran", *record.in_vain])
+        return ", ".join([*parts, f"{several(spent.sides, 'callback', 'callbacks')} ran", *record.in_vain])
 
     def lines(self) -> Iterator[Tuple[int, Phrase]]:
         """The branches: how deep each lies, and what it says."""
@@ -60,10 +60,10 @@ class Tree:
         other = self._other(step, opens)
         own = OfScript(self._run.fold.rows[step.row].entry.line)
         said: Dict[Does, Phrase] = {
-            Does.MADE: ("is made in a side of ", *other) if other else ("is made",),
+            Does.MADE: ("is made in a callback of ", *other) if other else ("is made",),
             Does.FIRED: ("is fired: ", own, *self._by(step, other)),
             Does.WAITS: ("waits for ", *other, *self._until(step)),
-            Does.RAN: ("a side runs", *self._comes_to(step)),
+            Does.RAN: ("a callback runs", *self._comes_to(step)),
             Does.MAKES: ("makes ", *other),
             Does.FIRES: ("fires ", *other, ": ", own),
             Does.CALLS: (own, *self._came(step)),
@@ -81,6 +81,8 @@ class Tree:
         return (OfDeferred(record.number), *spent)
 
     def _hangs(self, step: Step) -> Phrase:
+        if step.hang is not None and step.hang.at is At.TIMEOUT:
+            return (f"{_HANGS[step.hang.at]} ", OfTime(step.hang.number))
         if step.hang is not None:
             name = object_name(self._run.fold, step.hang)
             return (f"{_HANGS[step.hang.at]} ", OfScript(name))
@@ -88,7 +90,7 @@ class Tree:
         return words(said, *self._other(step, False))
 
     def _by(self, step: Step, other: Phrase) -> Phrase:
-        return words(" by a side of ", *other) if other else self._because(step)
+        return words(" by a callback of ", *other) if other else self._because(step)
 
     def _because(self, step: Step) -> Phrase:
         row = self._run.fold.rows[step.row or 0]

@@ -139,8 +139,8 @@ class Chart:
             if advances:
                 yield Html(f"<rect class=band x=0 y={y} width={RULER} height={SLOT} />")
             if advances or at == slots.start or slot.row == self._rows.window.start:
-                text, is_cut = shown_time(row.time)
-                whole = f"<title>{row.time}</title>" if is_cut else ""
+                text, uncut = shown_time(row.time, self._run.tick)
+                whole = f"<title>{uncut}</title>" if uncut else ""
                 yield Html(f"<text class=time x=2 y={y + 14}>{text}{whole}</text>")
 
     # the lanes

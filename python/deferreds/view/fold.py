@@ -10,7 +10,7 @@ from typing import Callable, Dict, List, Optional, Sequence
 from .causes import Causes
 from .lines import NULL, End, Entry
 from .nesting import LAST_POSTS, Nesting, Place
-from .phrases import OfDeferred, OfEvent, OfLine, OfScript, Phrase, listed
+from .phrases import OfDeferred, OfEvent, OfLine, OfScript, OfTime, Phrase, listed
 from .records import Actor, ArrowKind, Bracket, BracketKind, By, GotNull, Made, Record, Row
 from .sizes import several
 from .world import Call, Job, Lock, Loop, Phase, Queue, Task, Tick, Wait, World
@@ -55,7 +55,7 @@ class Fold:
     def said_by(self, actor: Actor) -> Phrase:
         """Who acts, in words."""
         if actor.by is By.SIDE:
-            return ("a side of ", OfDeferred(actor.number))
+            return ("a callback of ", OfDeferred(actor.number))
         if actor.by is By.SECTION:
             return (OfScript(self.rows[actor.number].entry.line),)
         if actor.by is By.AFTER:
@@ -117,7 +117,7 @@ class Fold:
             shown = listed([OfDeferred(number) for number in self._unmade], _MOST_NAMED)
             self.problems.append(("the beginning is missing: ", f"{counted}: ", *shown))
         for place in self.nesting.crossed:
-            self.problems.append((OfLine(place), " ends a side that isn't the innermost"))
+            self.problems.append((OfLine(place), " ends a callback that isn't the innermost"))
         self.known_outcomes = len(ends)
         for end in ends:
             record = self.records.get(end.number)
@@ -418,7 +418,7 @@ class Fold:
     def _reset(self, row: Row, entry: Entry, before: Optional[Row]) -> None:
         call = self.world.calls.found(entry)
         if call is not None and call.state is Wait.WAITING:
-            row.cause = ("scheduled at ", OfLine(call.row), f", was due {call.due}")
+            row.cause = ("scheduled at ", OfLine(call.row), ", was due ", OfTime(call.due))
             call.due, call.reset = entry.number, row.place
             self.world.due.add(call.name, call)
 
@@ -439,7 +439,7 @@ class Fold:
             cause: Phrase = ("scheduled at ", OfLine(call.row))
             if call.reset is not None:
                 cause += (", reset at ", OfLine(call.reset))
-            row.cause = cause + (f", due {call.due}",)
+            row.cause = (*cause, ", due ", OfTime(call.due))
 
     def _job(self, row: Row, entry: Entry, before: Optional[Row]) -> None:
         record = self._touch(row, entry.deferred)

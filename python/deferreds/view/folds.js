@@ -1,5 +1,5 @@
 // Folds: rows that are hidden as long as the row which stays is shut.
-var KINDS = { p: "its pairs", w: "sides without effect", k: "gives a token back", l: "schedules the next turn", s: "" };
+var KINDS = { p: "its pairs", w: "callbacks without effect", k: "releases a token", l: "schedules the next turn", s: "" };
 var folds = [], foldNote = document.getElementById("folds"), closed = [];
 function makeFolds() {
   folds = [];
@@ -42,7 +42,7 @@ function tellFolds() {
   foldNote.hidden = false;
   foldNote.replaceChildren(said);
   if (hidden) foldNote.append(act("open all", false), " ");
-  if (open) foldNote.append(act("fold built-in pairs, sides without effect and equal turns", true));
+  if (open) foldNote.append(act("fold built-in pairs, callbacks without effect and equal turns", true));
 }
 function act(text, shut) {
   var button = made("button", "act", text);

@@ -49,6 +49,11 @@ class Inferred:
                 self._awaiting.setdefault(record.awaits, []).append(record.number)
 
     @property
+    def is_recorded(self) -> bool:
+        """Whether a recorder tells of the run."""
+        return bool(self._tick) or bool(self._places)
+
+    @property
     def _bodies(self) -> Bodies:
         if self._known_bodies is None:
             self._known_bodies = Bodies(self._fold, self._script.bodies)

@@ -7,11 +7,12 @@ from typing import Dict, Optional, Set, Tuple
 
 from .fold import Fold
 from .lines import WORDS
-from .phrases import OfDeferred, OfEvent, OfLine, OfPlace, OfScript, Part, Phrase
+from .phrases import OfDeferred, OfEvent, OfLine, OfPlace, OfScript, OfTime, Part, Phrase
 from .places import Place
 from .records import Row
 from .scripts import Script
 from .texts import Html, clipped, escaped, joined, shortened
+from .units import time_of
 
 _MOST_PART, _MOST_EVENT, _MOST_PLACE = 300, 80, 60
 _OWN_TEXTS = frozenset({"note", "unhandled", "put"})
@@ -21,13 +22,14 @@ _NUMBER = re.compile(r"#(\d+)")
 class Markup:
     """Writes references to lines and Deferreds, which are links where the page has what they refer to."""
 
-    def __init__(self, fold: Fold, script: Script, window: range, folded: Dict[int, int], there: range = range(0)) -> None:
+    def __init__(self, fold: Fold, script: Script, window: range, folded: Dict[int, int], there: range = range(0), tick: str = "") -> None:
         self._fold = fold
         self._script = script
         self._window = window
         self._folded = folded
         #: the rows that the script of the page can show
         self._there = there
+        self._tick = tick
         #: the Deferreds whose outcome the page has: set before anything is written
         self.outcomes: Set[int] = set()
         #: the references that were written, by number and by whether they are named
@@ -81,6 +83,8 @@ class Markup:
             return Html(f"event {part.number} {text}".rstrip())
         if isinstance(part, OfPlace):
             return placed(part.place)
+        if isinstance(part, OfTime):
+            return escaped(time_of(part.time, self._tick))
         return isolated(shortened(part.text, most)) if isinstance(part, OfScript) else escaped(part)
 
     def words(self, row: Row, most: int) -> Html:

@@ -141,4 +141,4 @@ class Outcomes:
         firings had no effect."""
         spent, ticks = self._run.durations.of(record), self._run.ticks
         parts = [f"{word} {ticks(count)}" for word, count in (("unfired", spent.unfired), ("waited", spent.waited), ("paused", spent.paused)) if count]
-        return ", ".join([*parts, *([several(spent.sides, "side", "sides")] if spent.sides else []), *record.in_vain])
+        return ", ".join([*parts, *([several(spent.sides, "callback", "callbacks")] if spent.sides else []), *record.in_vain])

@@ -37,7 +37,13 @@ class OfPlace(NamedTuple):
     place: Place
 
 
-Part = Union[str, OfDeferred, OfLine, OfEvent, OfScript, OfPlace]
+class OfTime(NamedTuple):
+    """A time of the clock, in ticks."""
+
+    time: int
+
+
+Part = Union[str, OfDeferred, OfLine, OfEvent, OfScript, OfPlace, OfTime]
 Phrase = Tuple[Part, ...]
 
 

@@ -25,7 +25,7 @@ from .left import (
     LeftUnhandled,
     LeftValues,
 )
-from .phrases import OfDeferred, OfLine, OfPlace, OfScript, Part, Phrase, listed, words
+from .phrases import OfDeferred, OfLine, OfPlace, OfScript, OfTime, Part, Phrase, listed, words
 from .places import NOWHERE, Places
 from .records import By, Finish, GotNull, Made, Record, Row
 from .scripts import Script
@@ -62,7 +62,7 @@ class Report:
     ) -> None:
         self._inferred = inferred
         self._places_of = places
-        self._is_recorded = bool(places)
+        self._is_recorded = inferred.is_recorded
         self._ticks = ticks
         self._fold = fold
         self._left = left
@@ -126,7 +126,7 @@ class Report:
             record = self._fold.records.get(number)
             since = record.runs_since if record is not None else None
             begun = words(", from ", OfLine(since), ",") if since is not None else words()
-            details.append(("a side of ", OfDeferred(number), *begun, " hadn't ended"))
+            details.append(("a callback of ", OfDeferred(number), *begun, " hadn't ended"))
         if len(running) > _MOST_HELD:
             details.append((f"nor had those of {len(running) - _MOST_HELD} more",))
         for number in running:
@@ -318,30 +318,32 @@ class Report:
 
     def _due(self, one: Left) -> Optional[Finding]:
         world = self._fold.world
-        when = f"and time has come to {world.now}"
+        when = words(", and the run ended at ", OfTime(world.now))
         if isinstance(one, LeftCall):
             call = world.calls.at(one.number)
             name, row = (call.name, call.row) if call is not None else ("", None)
             reset = call.reset if call is not None else None
             details: Tuple[Phrase, ...] = () if reset is None else (("it was reset in ", OfLine(reset)),)
             return Finding(
-                Severity.LEFT, Kind.CALL, (f"delayed call {name} is due at {one.due}, {when}",), details, row
+                Severity.LEFT, Kind.CALL, ("delayed call ", name, " is due at ", OfTime(one.due), *when), details, row
             )
         if isinstance(one, LeftTick):
             tick = world.due_ticks.get(one.cooperator)
             row = tick.row if tick is not None else None
             whose = f" of {one.cooperator}" if one.cooperator else ""
-            return Finding(Severity.LEFT, Kind.TICK, (f"a tick{whose} is due at {one.due}, {when}",), (), row)
+            return Finding(Severity.LEFT, Kind.TICK, (f"a tick{whose} is due at ", OfTime(one.due), *when), (), row)
         if isinstance(one, LeftTimeout):
             row = self._timers.get((one.deferred, one.due))
-            said: Phrase = ("the timer of ", OfDeferred(one.deferred), f" is due at {one.due}, {when}")
+            said: Phrase = ("the timer of ", OfDeferred(one.deferred), " is due at ", OfTime(one.due), *when)
             return Finding(Severity.LEFT, Kind.TIMER, said, (), row)
         if isinstance(one, LeftDelivery):
             job = world.jobs.get(one.job)
             said = (
                 f"the result of job {one.job} for ",
                 OfDeferred(one.deferred),
-                f" is due at {one.due}, {when}",
+                " is due at ",
+                OfTime(one.due),
+                *when,
             )
             held = self._held(Root(At.JOB, one.job), [one.deferred])
             return Finding(
@@ -353,7 +355,7 @@ class Report:
         loop = self._fold.world.loops.at(one.number)
         if loop is None:
             return None
-        said: Phrase = (f"loop {loop.name} goes on, its next turn is due at {one.due}",)
+        said: Phrase = (f"loop {loop.name} goes on, its next turn is due at ", OfTime(one.due or 0))
         if one.due is None:
             said = (f"loop {loop.name} goes on, its last turn isn't over",)
             if one.waits_for:

@@ -9,6 +9,7 @@ from .layout import CHUNK, SLOT, Rows
 from .left import Left, LeftCall, LeftDelivery, LeftLoop, LeftTick, LeftTimeout
 from .records import Bracket, BracketKind
 from .texts import Html
+from .units import seconds_of
 
 WIDTH = 58
 _MOST_BESIDE, _LONGEST = 5, 150
@@ -106,7 +107,10 @@ def _end(kind: BracketKind, y: int) -> str:
     return f'<path class="br br-cancelled" d="M{WIDTH - 6} {y - 3}l6 6m0 -6l-6 6" />'
 
 
-def shown_time(time: int) -> Tuple[str, bool]:
-    """A time as the ruler shows it, and whether that is cut."""
-    text = str(time)
-    return (text, False) if len(text) <= 6 else (f"{time:.3g}", True)
+def shown_time(time: int, tick: str) -> Tuple[str, str]:
+    """A time as the ruler shows it, and the whole of it if that is cut; in seconds, if it is known how long a tick was."""
+    text = f"{seconds_of(time, tick):.9f}".rstrip("0").rstrip(".") if tick else f"{time}"
+    if len(text) <= 6:
+        return text, ""
+    seconds = seconds_of(time, tick)
+    return (f"{seconds:.4g}", f"{text} s") if tick else (f"{time:.3g}", text)

@@ -98,7 +98,7 @@ class Run:
         if self.fold.knows_events:
             return f"What is left is read from the lines of the journal, which don't tell {untold}{stopped}."
         return (
-            "Read from a journal alone: rows are nested by the sides that run. It doesn't tell where events begin, and where calls, "
+            "Read from a journal alone: rows are nested by the callbacks that run. It doesn't tell where events begin, and where calls, "
             f"turns and posts end. Nor does it tell {untold}{stopped}."
         )
 

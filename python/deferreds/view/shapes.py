@@ -18,7 +18,7 @@ _BARS: Dict[State, str] = {
 #: what a bar says, for who doesn't see it
 SAYS: Dict[State, str] = {
     State.UNFIRED: "unfired",
-    State.RUN: "a side runs",
+    State.RUN: "a callback runs",
     State.OK: "fired, a value",
     State.FAIL: "fired, a failure",
     State.WAIT: "waits for another",

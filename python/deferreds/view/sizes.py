@@ -2,6 +2,8 @@
 
 from __future__ import annotations
 
+from .units import in_seconds
+
 #: how many lines a chart has at most, how many of them a longer run shows at a time, and how many its page has
 MOST_ROWS, AT_A_TIME, MOST_LINES = 5_000, 2_000, 100_000
 
@@ -19,7 +21,7 @@ def counts_of(lines: int, deferreds: int, events: int, time: int, tick: str, wei
     parts = [several(lines, "line", "lines"), several(deferreds, "Deferred", "Deferreds")]
     if events:
         parts.append(several(events, "event", "events"))
-    parts.append(f"time 0 to {time}" + (f", a tick is {tick}" if tick else ""))
+    parts.append(f"{in_seconds(time, tick)}, a tick is {tick}" if tick else f"time 0 to {time}")
     if weight:
         parts.append(f"weight {weight}")
     return ", ".join(parts)

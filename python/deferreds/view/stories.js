@@ -36,15 +36,15 @@ function stepsOf(words) {
   return open[0];
 }
 function inTicks(count) {
-  var seconds = count * tickSeconds, said = several(count, "tick", "ticks");
-  if (!tickSeconds) return said;
-  if (seconds >= 1000) return said + " (" + seconds.toFixed(0) + " s)";
-  if (seconds && seconds < 0.001) return said + " (" + Number((seconds * 1000).toPrecision(3)) + " ms)";
-  return said + " (" + Number(seconds.toPrecision(4)) + " s)";
+  var seconds = count * tickSeconds;
+  if (!tickSeconds) return several(count, "tick", "ticks");
+  if (seconds >= 1000) return seconds.toFixed(0) + " s";
+  if (seconds && seconds < 0.001) return Number((seconds * 1000).toPrecision(3)) + " ms";
+  return Number(seconds.toPrecision(4)) + " s";
 }
 function spent(one) {
   var paused = one.paused ? ", paused " + inTicks(one.paused) : "";
-  return "unfired " + inTicks(one.unfired) + ", waited " + inTicks(one.waited) + paused + ", " + several(one.sides, "side", "sides") + " ran" + inVain(one, "x", "refused") + inVain(one, "s", "swallowed");
+  return "unfired " + inTicks(one.unfired) + ", waited " + inTicks(one.waited) + paused + ", " + several(one.sides, "callback", "callbacks") + " ran" + inVain(one, "x", "refused") + inVain(one, "s", "swallowed");
 }
 // how many firings had no effect
 function inVain(one, does, word) {
@@ -101,17 +101,17 @@ function branch(one) {
   var step = one.step, said = made("div", "branch"), other = step.other === null ? "" : whom(step.other, one.opens);
   said.style.paddingLeft = 18 * Math.min(one.depth - 1, DEEPEST) + "px";
   said.dataset.s = [one.depth, step.does, step.row === null ? "" : step.row, step.other === null ? "" : step.other, one.opens ? 1 : 0].join(" ");
-  if (step.does === "m") said.append("is made", other && " in a side of ", other);
-  else if (step.does === "f") said.append("is fired: ", rowText(step.row), other ? " by a side of " : cause(step.row), other);
+  if (step.does === "m") said.append("is made", other && " in a callback of ", other);
+  else if (step.does === "f") said.append("is fired: ", rowText(step.row), other ? " by a callback of " : cause(step.row), other);
   else if (step.does === "w") said.append("waits for ", other, step.end === null ? ", and still does" : ", until ", step.end === null ? "" : lineLink(step.end), step.end === null ? "" : ": " + inTicks(step.ticks));
-  else if (step.does === "r") said.append("a side runs", step.end === null ? ", and hasn't ended" : " → ", step.end === null ? "" : rowText(step.end));
+  else if (step.does === "r") said.append("a callback runs", step.end === null ? ", and hasn't ended" : " → ", step.end === null ? "" : rowText(step.end));
   else if (step.does === "n") said.append("makes ", other);
   else if (step.does === "g") said.append("fires ", other, ": ", rowText(step.row));
   else if (step.does === "l") said.append(rowText(step.row), step.end === null ? "" : ", which came in ", step.end === null ? "" : lineLink(step.end));
   else if (step.does === "c") said.append("waits for its child ", other);
   else if (step.does === "k") said.append("is fired by a pair of ", other);
   else if (step.does === "x" || step.does === "s") said.append(rowText(step.row), cause(step.row));
-  else if (step.does === "h") said.append(HANGS[step.hang[0]] + step.hang[1]);
+  else if (step.does === "h") said.append(HANGS[step.hang[0]] + (step.hang[0] === "timeout" && tickSeconds ? inTicks(Number(step.hang[1])) : step.hang[1]));
   else said.append(rowText(step.row));
   if (step.row !== null) said.append(" ", made("span", "why", "("), lineLink(step.row), made("span", "why", ")"));
   return said;

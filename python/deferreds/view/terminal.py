@@ -6,7 +6,7 @@ from typing import Dict, Iterator, List, Optional, Sequence
 
 from .branches import Tree
 from .events import Events
-from .phrases import OfDeferred, OfEvent, OfLine, OfPlace, OfScript, Part, Phrase
+from .phrases import OfDeferred, OfEvent, OfLine, OfPlace, OfScript, OfTime, Part, Phrase
 from .places import Place
 from .records import By, Ended, Record, Row, ended
 from .findings import Finding, Severity
@@ -14,7 +14,7 @@ from .run import Run
 from .sites import Site
 from .sizes import several
 from .texts import clipped, visible
-from .units import said_of
+from .units import said_of, time_of
 
 _DEEPEST = 12
 _MOST_LINE, _MOST_TEXT, _MOST_EVENT, _MOST_SITE, _MOST_ODD = 160, 200, 100, 40, 5
@@ -47,7 +47,8 @@ class Terminal:
         self._color = color
         self._events = Events(run.fold, run.script, run.places)
         self._number = len(str(len(run.fold.rows)))
-        self._time = max(1, len(str(run.fold.world.now)))
+        times = {row.time for row in run.fold.rows}
+        self._time = max((len(time_of(time, run.tick)) for time in times), default=1)
 
     def lines(self) -> Iterator[str]:
         """All lines, each without its end."""
@@ -110,6 +111,8 @@ class Terminal:
             )
         if isinstance(part, OfPlace):
             return visible(part.place.text)
+        if isinstance(part, OfTime):
+            return time_of(part.time, self._run.tick)
         return visible(clipped(part.text, _MOST_TEXT)) if isinstance(part, OfScript) else visible(part)
 
     def _deferred(self, number: int) -> str:
@@ -146,7 +149,7 @@ class Terminal:
         if head is not None:
             text = visible(clipped(head, _MOST_EVENT) + self._at(self._events.place(row)))
             yield self._toned("strong", f"{'':{self._number + self._time + 2}}┄ {text}")
-        time = str(row.time) if row.entry.word == "advance" or row.place == 0 else "·"
+        time = time_of(row.time, self._run.tick) if row.entry.word == "advance" or row.place == 0 else "·"
         tone = "bad" if row.entry.fails else _WORD_TONES.get(row.entry.word)
         said = self._toned(tone, self._line(row))
         yield f"{row.place + 1:{self._number}} {time:>{self._time}} {_bars(row)}{said}{self._why(row)}"

@@ -25,7 +25,7 @@ _LEAST_TICK = 1_000
 _LATEST = 4 * 10**15
 _MOST_NAME, _MOST_TEXT = 100, 1_000
 
-_STATES = {State.UNFIRED: "unfired", State.RUN: "a side runs", State.WAIT: "waits"}
+_STATES = {State.UNFIRED: "unfired", State.RUN: "a callback runs", State.WAIT: "waits"}
 _FLOWS = {
     ArrowKind.FIRE: "fires",
     ArrowKind.HAND: "hands over",

@@ -2,8 +2,6 @@
 
 from __future__ import annotations
 
-from .sizes import several
-
 #: how many of each unit a second has
 _IN_A_SECOND = {"s": 1, "ms": 1_000, "µs": 1_000_000, "ns": 1_000_000_000}
 
@@ -23,6 +21,11 @@ def in_seconds(ticks: int, tick: str) -> str:
     return f"{seconds:.0f} s" if seconds >= 1_000 else f"{seconds:.4g} s" if seconds >= 0.001 or not seconds else f"{seconds * 1000:.3g} ms"
 
 
+def time_of(time: int, tick: str) -> str:
+    """A time of the clock: in seconds, if it is known how long a tick was."""
+    return in_seconds(time, tick) or f"{time}"
+
+
 def said_of(ticks: int, tick: str) -> str:
     """So many ticks in words: in seconds, if it is known how long a tick was."""
-    return in_seconds(ticks, tick) if tick else several(ticks, "tick", "ticks")
+    return in_seconds(ticks, tick) if tick else f"{ticks} tick{'' if ticks == 1 else 's'}"

@@ -17,8 +17,9 @@ class Window:
 
     def __init__(self, run: Run, events: Events, lines: range, there: range) -> None:
         self.lines = lines
+        self._time = "seconds" if run.tick else "time   "
         self.rows = Rows(run.fold, events, lines)
-        self.markup = Markup(run.fold, run.script, lines, self.rows.folded, there)
+        self.markup = Markup(run.fold, run.script, lines, self.rows.folded, there, run.tick)
         self._lanes = Lanes(run.fold, self.rows)
         self._chart = Chart(run, self.rows, self._lanes, events, self.markup)
         self.width, self.side = self._chart.width, self._chart.side
@@ -55,7 +56,7 @@ class Window:
                 said = f"lanes of {drawn} of {of} Deferreds: no more stand beside each other; a column is used again when one is done"
             texts.append(Html(f"<text class=dim x=14 y=15>{said}</text>"))
         return Html(
-            f"<div class=head><div class=what>  line  time{'':6}what happened</div>"
+            f"<div class=head><div class=what>  line  {self._time}   what happened</div>"
             f"<svg width={self._lanes.full_width} height=22>{joined(texts)}</svg></div>"
         )
 
