@@ -19,11 +19,14 @@ from deferreds.view.pages import written_page
 from deferreds.view.run import Run
 from deferreds.view.terminal import Terminal
 
+from . import samples
 from .test_browser import InBrowser
 
 _RECORDINGS = Path(__file__).resolve().parent / "data" / "services"
 _PROGRAMS = Path(__file__).resolve().parents[1] / "data" / "services"
 _SCREEN = 900
+#: becomes true when a page that draws itself has drawn all
+_WHOLE = "new Promise(done => { (function look() { if ('whole' in document.body.dataset) return done(true); setTimeout(look, 20); })(); })"
 
 
 class Cause(NamedTuple):
@@ -42,7 +45,7 @@ _CAUSES = {
     ),
     "payments": Cause(
         Kind.SWALLOWED,
-        ['nobody got "receipt-13 card-6 312"', "14 were made there: 13 ok, 1 cancelled", 'made another there: #98·ask_33_13, fired with ok "receipt-12 card-6 312"'],
+        ['nobody got "receipt-13 card-6 312"', "14 were made there: 13 ok, 1 cancelled", 'made another there: #96·ask_33_13, fired with ok "receipt-12 card-6 312"'],
         {"wire.py:33": "defer.Deferred()", "wire.py:41": "answer.callback("},
     ),
     "payments_small": Cause(
@@ -52,8 +55,8 @@ _CAUSES = {
     ),
     "warehouse": Cause(
         Kind.ODD,
-        ["was unfired for 1.4", "43 were made there: 41 ok, 1 cancelled, 1 fail", "order_103_7", "a guess"],
-        {"wire.py:33": "defer.Deferred()", "warehouse.py:103": "shop.order("},
+        ["was unfired for 1.4", "43 were made there: 41 ok, 1 cancelled, 1 fail", "order_103_7, made at warehouse.py:103, awaited it at warehouse.py:67", "a guess"],
+        {"wire.py:33": "defer.Deferred()", "warehouse.py:103": "shop.order(", "warehouse.py:67": 'await self.warehouse.ask("reserve"'},
     ),
     "stock_levels": Cause(
         Kind.OVERTAKEN,
@@ -61,6 +64,11 @@ _CAUSES = {
         {"stock_levels.py:33": "threads.deferToThread(self.store.read, item)"},
     ),
     "mailer": Cause(Kind.GETTER, ["1 waits for a value", "the inline body of #2·work_26"], {"mailer.py:35": "self.letters.get()"}),
+    "transfers": Cause(
+        Kind.CIRCLE,
+        ["each is held by a body that awaits the next", "#6·transfer_32 took lock_transfer_15", "#9·transfer_32_2 took lock_transfer_18"],
+        {"transfers.py:15": "yield source.lock.acquire()", "transfers.py:18": "yield target.lock.acquire()"},
+    ),
     "feeds": Cause(
         Kind.WENT_ON,
         ["read_58_4", "went on after it was cancelled", 'failed with RemoteError "stocks"', "a guess"],
@@ -68,7 +76,7 @@ _CAUSES = {
     ),
 }
 
-_MENDED = ("ledger", "payments", "warehouse", "stock_levels", "mailer")
+_MENDED = ("ledger", "payments", "warehouse", "stock_levels", "mailer", "transfers")
 
 
 def run_of_service(name: str) -> Run:
@@ -150,10 +158,10 @@ class ByLine(unittest.TestCase):
         table = lines[lines.index("") + 1 :]
         self.assertEqual(table[0].split("  ")[0], "made at")
         self.assertEqual(len(table) - 1, len(run.inferred.sites.all))
-        self.assertRegex(table[1], r"^wire\.py:33 ask +16 +13 ok, 1 fail, 2 unfired +0\.033 s +0\.8\d+ s +#71 #100$")
+        self.assertRegex(table[1], r"^wire\.py:33 ask +16 +13 ok, 1 fail, 2 unfired +0\.043 s +0\.8\d+ s +#71 #101$")
         page = written_page(run)
         self.assertEqual(page.count("<summary class=site>"), len(run.inferred.sites.all))
-        self.assertIn("<span>13 ok, 1 fail, 2 unfired</span><span>0.033 s</span>", page)
+        self.assertIn("<span>13 ok, 1 fail, 2 unfired</span><span>0.043 s</span>", page)
 
     def test_the_outcomes_of_a_text_stand_below_their_lines(self) -> None:
         lines = list(Terminal(run_of_service("mailer"), False).lines())
@@ -188,10 +196,10 @@ class Words(unittest.TestCase):
     def test_times_are_seconds(self) -> None:
         run = run_of_service("warehouse")
         page, lines = written_page(run), list(Terminal(run, False).lines())
-        self.assertRegex(lines[1], r"^1296 lines, 151 Deferreds, 217 events, 1\.6\d\d s, a tick is 1 µs$")
-        self.assertTrue(any(line.split()[1:4] == ["0.001", "s", "advance"] for line in lines))
+        self.assertRegex(lines[1], r"^1298 lines, 151 Deferreds, 219 events, 1\.6\d\d s, a tick is 1 µs$")
+        self.assertTrue(any(re.match(r" *\d+ +0\.0\d+ s advance \d+000 ", line) for line in lines))
         self.assertIn("<div class=what>  line  seconds   what happened</div>", page)
-        self.assertIn(">0.001</text>", page)
+        self.assertRegex(page, r"<text class=time x=2 y=\d+>0\.0\d+</text>")
         self.assertRegex(page, r"<text x=[\d.]+% y=12>0\.5 s</text>")
 
 
@@ -209,6 +217,17 @@ class FirstScreen(InBrowser):
                 said = self.asked(f"{row}.innerText")
                 for place in cause.lines:
                     self.assertIn(place, said)
+
+    def test_a_page_that_draws_itself_shows_the_same(self) -> None:
+        shown = "Array.from(document.querySelectorAll('.report, .sites, .verdict'), one => one.outerHTML)"
+        for name in ("ledger", "warehouse", "feeds", "transfers", "stock_levels", "mailer"):
+            with self.subTest(name):
+                told = Inputs(str(_RECORDINGS / f"{name}.json")).told()
+                self.show_drawn(samples.Text(told.source, told.text))
+                self.asked(_WHOLE)
+                drawn = self.asked(shown)
+                self.show(told.run())
+                self.assertEqual(drawn, self.asked(shown))
 
     def test_a_line_opens_to_its_deferreds(self) -> None:
         self.show(run_of_service("warehouse"))

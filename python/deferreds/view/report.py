@@ -47,6 +47,12 @@ def _guess(shelf: Shelf[T], name: str) -> List[Phrase]:
     return [(f"the name {name} was bound more than once: which of them a line means is a guess",)]
 
 
+def _is_of(phrase: Phrase, numbers: Sequence[Optional[int]]) -> bool:
+    """Whether a phrase is about one of these Deferreds first."""
+    first = next((part.number for part in phrase if isinstance(part, OfDeferred)), None)
+    return first is not None and first in numbers
+
+
 class Report:
     """What is left of a run."""
 
@@ -69,12 +75,14 @@ class Report:
         self._script = script
         self._hanging = Hanging(fold, left)
         self._told: Set[End] = set()
+        #: the numbers of locks whose holders await each other's
+        self._crossed: Set[int] = set()
         self._timers = {(timer.deferred, timer.due): timer.row for timer in fold.world.timers}
         self._failed = {one.number for one in left if isinstance(one, LeftFailure)}
         found = [*self._bad(finish), *self._open(), *self._notes()]
         found += inferred.went_on()
         found += inferred.odd({record.number for record in fold.records.values() if record.swallowed})
-        found += inferred.overtaken(bool(found))
+        found += inferred.overtaken()
         self.findings: List[Finding] = sorted(found, key=lambda finding: _KINDS.index(finding.kind))
 
     def count(self, severity: Severity) -> int:
@@ -117,6 +125,11 @@ class Report:
         for end in list(self._hanging.on):
             if isinstance(end, Circle):
                 yield self._circle(end)
+        for ring in self._inferred.crossed(list(self._of(LeftTokens))):
+            self._crossed.update(link.lock for link in ring)
+            bodies = [link.held.body for link in ring]
+            waiting = [phrase for link in ring for phrase in self._held(Root(At.LOCK, link.lock)) if not _is_of(phrase, bodies)]
+            yield self._inferred.circle(ring, waiting)
 
     def _stopped(self, finish: Finish) -> Finding:
         """The limit was reached, or the text was cut off; the sides that still ran are its details."""
@@ -133,11 +146,21 @@ class Report:
             details += self._held(Root(At.DEFERRED, number), [number])
         last = len(self._fold.rows) - 1
         kind, said = Kind.STOPPED, "the run stopped at the limit of its journal"
+        if finish is Finish.UNMET and last >= 0:
+            details += self._unmet(self._fold.rows[last])
         if finish is Finish.UNMET:
             kind, said = Kind.UNMET, "a Deferred isn't as the script expects, and the run ended there"
         if finish is Finish.CUT:
             kind, said = Kind.CUT, f"the text ends before {self._missing()}: how the run went on isn't known"
         return Finding(Severity.BAD, kind, (said,), tuple(details), last if last >= 0 else None)
+
+    def _unmet(self, row: Row) -> List[Phrase]:
+        """What was expected of a Deferred, and what it is; or that its name is bound to none."""
+        expected = self._script.expected(row.event) if row.event is not None else ""
+        what = words(", and ", OfScript(expected), " was expected") if expected else words()
+        if row.entry.word == "unbound":
+            return [("no Deferred has the name ", OfScript(row.entry.line[row.entry.head :]), *what)]
+        return [(OfDeferred(row.entry.deferred), " is ", OfScript(row.entry.line[row.entry.head :]), *what)]
 
     def _missing(self) -> str:
         """What a text that was cut off lacks: outcomes, or only what comes after them."""
@@ -230,7 +253,7 @@ class Report:
         pairs = several(record.pairs, "pair waits", "pairs wait")
         stopped: List[Phrase] = []
         if record.awaits is not None:
-            stopped = [("its body has awaited ", OfDeferred(record.awaits), ", and didn't end")]
+            stopped = [("its body has awaited ", OfDeferred(record.awaits), *self._inferred.awaits_at(record), ", and didn't end")]
         places = self._places(record) if record.made is Made.ACTION else ()
         details = details_of(
             self._made_at(record),
@@ -249,9 +272,11 @@ class Report:
         return [("made at ", OfPlace(place))] if place is not None else []
 
     def _where(self, number: int) -> Phrase:
-        """Where in the program a Deferred was made that waits for something, if that is known; of a body, what it awaits says where."""
+        """Where in the program a body awaits, or a Deferred was made that waits for something, if that is known."""
         record = self._fold.records.get(number)
-        place = self._places_of.of_deferred(record.names) if record is not None and record.awaits is None else None
+        if record is not None and record.awaits is not None:
+            return self._inferred.awaits_at(record)
+        place = self._places_of.of_deferred(record.names) if record is not None else None
         return words(", made at ", OfPlace(place)) if place is not None else words()
 
     def _places(self, record: Record) -> Phrase:
@@ -300,7 +325,7 @@ class Report:
 
     def _tokens(self, one: LeftTokens) -> Optional[Finding]:
         lock = self._fold.world.locks.at(one.number)
-        if lock is None:
+        if lock is None or one.number in self._crossed:
             return None
         waiting = self._held(Root(At.LOCK, one.number))
         found = self._inferred.token(one, lock, waiting)
