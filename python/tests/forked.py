@@ -113,11 +113,18 @@ class Ran(NamedTuple):
     stderr: str
 
 
-def run(words: Sequence[str], folder: Union[str, Path], environment: Mapping[str, str], merged: bool = False, given: str = "") -> Ran:
-    """Runs `python3 WORDS..` to its end, with this as standard input."""
+def run(
+    words: Sequence[str],
+    folder: Union[str, Path],
+    environment: Mapping[str, str],
+    merged: bool = False,
+    given: str = "",
+    seconds: float = _SECONDS,
+) -> Ran:
+    """Runs `python3 WORDS..` to its end, with this as standard input. Raises TimeoutError, if it takes longer."""
     process = Forked(words, folder, environment, merged)
     try:
-        printed, said = process.communicate(_SECONDS, given)
+        printed, said = process.communicate(seconds, given)
         return Ran(process.wait(), printed, said)
     finally:
         process.close()

@@ -20,7 +20,17 @@ _FOLDER = Path(__file__).resolve().parent
 _PROCESSES = 2
 
 #: the modules that take longest, which begin first
-_LONGEST = ("test_conform", "test_endings", "test_reactors", "test_real_reactor", "test_last", "test_testing")
+_LONGEST = (
+    "test_conform",
+    "test_endings",
+    "test_reactors",
+    "test_real_reactor",
+    "test_last",
+    "test_testing",
+    "test_shake_command",
+    "test_shaken_programs",
+    "test_shaken_tests",
+)
 
 
 class Ran(NamedTuple):

@@ -289,6 +289,12 @@ class SentenceTest(unittest.TestCase):
             runs = iter([(False, early), (True, late), *[(True, late)] * (6 - differing), *[(False, late)] * differing])
             self.assertEqual(sentence("job j 1", "the thread slept", lambda lengths: Seen(*next(runs))), expected)
 
+    def test_what_does_not_come_any_more_is_overtaken_by_the_first(self) -> None:
+        passes = [("call a", "A"), ("Client#1.w 1", "C"), ("Server#1.r 1", "R"), ("call b", "B")]
+        fails = [("call a", "A"), ("Server#1.r 1", "R"), ("call b", "B"), ("call c", "AFTER")]
+        said = sentence("hold Client#1.w 1", "held", lambda lengths: Seen(True, fails) if lengths["hold Client#1.w 1"] > 0.3 else Seen(False, passes))
+        self.assertEqual(said, "R comes before C")
+
     def test_how_much_comes_is_said_as_it_was(self) -> None:
         self.assertEqual(sentence("cut Client#1 1", "the 1st read gave 1 of 9 bytes", self.fail), "the 1st read gave 1 of 9 bytes")
 

@@ -1,4 +1,6 @@
-"""Tests that are shaken: one that has a race, one that trial's janitor calls unclean if it isn't given its turns, and one that fails alone."""
+"""Tests that are shaken: one that has a race, one that trial's janitor calls unclean if it isn't given its turns, one that
+hangs if its job comes after its timer, and one that fails alone.
+"""
 import os
 import time
 
@@ -30,7 +32,7 @@ class DepositTest(TestCase):
     @defer.inlineCallbacks
     def test_two(self):
         open("written", "w").close()
-        yield defer.gatherResults([self.deposit(10), later(0.25, self.deposit, 20)])
+        yield defer.gatherResults([self.deposit(10), later(0.5, self.deposit, 20)])
         self.assertEqual(self.stored, 130)
 
 
@@ -42,6 +44,14 @@ class ConnectionTest(TestCase):
         client.transport.write(b"hello")
         client.transport.loseConnection()
         yield port.stopListening()
+
+
+class HangingTest(TestCase):
+    def test_hangs(self):
+        done = defer.Deferred()
+        timer = reactor.callLater(0.3, lambda: None)
+        threads.deferToThread(time.sleep, 0.002).addCallback(lambda _: timer.cancel() or done.callback(None) if timer.active() else None)
+        return done
 
 
 class WrongTest(TestCase):

@@ -1,14 +1,17 @@
 """`pytest --deferreds-record FOLDER`: leaves a recording of each test that failed or left something behind.
 
+`pytest --shake N` runs each test alone, N times, shaken by a seed each time, and records the first run that fails.
+
 pytest finds this module by an entry point of the package. Nothing of Twisted is imported without the option.
 """
 
 from __future__ import annotations
 
 import contextlib
+import os
 import sys
 from pathlib import Path
-from typing import TYPE_CHECKING, Any, Generator, Iterator, Optional
+from typing import TYPE_CHECKING, Any, Generator, Iterator, List, Optional
 
 import pytest
 
@@ -19,6 +22,10 @@ if TYPE_CHECKING:
     from .recorded import RecordedTest, RecordedTests
 
 _OPTION = "--deferreds-record"
+_SHAKE, _SEED = "--shake", "--shake-seed"
+
+#: the status of the run of tests, once they were shaken
+_shaken: List[int] = []
 
 
 def pytest_addoption(parser: Any) -> None:
@@ -35,38 +42,94 @@ def pytest_addoption(parser: Any) -> None:
         default="",
         help="record these as the Python that they are made of, as `--plain` of deferreds-record does",
     )
+    group.addoption(
+        _SHAKE,
+        type=int,
+        metavar="N",
+        help="run each test alone, N times, shaken by a seed each time, and record the first run that fails (docs/SHAKE.md)",
+    )
+    group.addoption(_SEED, type=int, default=1, metavar="K", help="with --shake: the first seed")
 
 
 @contextlib.contextmanager
-def _refusing() -> Iterator[None]:
+def _refusing(option: str) -> Iterator[None]:
     """Has what stands in the way of a recording be told as pytest tells wrong words."""
     try:
         yield
     except (NotUsable, UnknownTwisted) as why:
-        raise pytest.UsageError(f"{_OPTION}: {why}") from None
+        raise pytest.UsageError(f"{option}: {why}") from None
     except ModuleNotFoundError as error:
         if (error.name or "").split(".")[0] == __package__.split(".", maxsplit=1)[0]:
             raise
-        raise pytest.UsageError(f"{_OPTION} needs Twisted, from 22.4 on: {error}") from None
+        raise pytest.UsageError(f"{option} needs Twisted, from 22.4 on: {error}") from None
 
 
 @pytest.hookimpl(tryfirst=True)
 def pytest_load_initial_conftests(early_config: Any) -> None:
-    """The instruments are put in before the first module of the tests is imported."""
-    if early_config.known_args_namespace.deferreds_record:
-        with _refusing():
+    """The instruments are put in before the first module of the tests is imported, and tests are shaken then."""
+    given = early_config.known_args_namespace
+    if given.shake is not None:
+        with _refusing(_SHAKE), _uncaptured(early_config):
+            _shaken.append(_shake(early_config))
+    elif given.deferreds_record:
+        with _refusing(_OPTION):
             from ..twisted.instruments import install
 
             install()
 
 
+def _shake(early_config: Any) -> int:
+    """Shakes the tests that are asked for. Gives the status of the run of tests."""
+    from .folder import NotUsable as Unusable
+    from .pytest_shaken import Shaking, shake
+
+    given = early_config.known_args_namespace
+    if given.shake < 1 or given.shake_seed < 0:
+        raise Unusable("the number of runs is from 1 on, and a seed from 0 on")
+    tests = list(given.file_or_dir or ())
+    options = _without_own([word for word in early_config.invocation_params.args if word not in tests])
+    return shake(Shaking(given.shake, given.shake_seed, Path(given.deferreds_record or os.curdir).resolve(), options, tests))
+
+
+def _without_own(words: List[str]) -> List[str]:
+    """The words of pytest without the options of this plugin, which take one each."""
+    own = (_SHAKE, _SEED, _OPTION)
+    kept: List[str] = []
+    before = ""
+    for word in words:
+        if word not in own and before not in own and not word.startswith(tuple(f"{option}=" for option in own)):
+            kept.append(word)
+        before = word
+    return kept
+
+
+@contextlib.contextmanager
+def _uncaptured(early_config: Any) -> Iterator[None]:
+    """Has what is said reach the terminal."""
+    manager = early_config.pluginmanager.getplugin("capturemanager")
+    if manager is None:
+        yield
+        return
+    manager.suspend_global_capture(in_=True)
+    try:
+        yield
+    finally:
+        manager.resume_global_capture()
+
+
+@pytest.hookimpl(tryfirst=True)
+def pytest_cmdline_main() -> Optional[int]:
+    """Tests that were shaken aren't run again."""
+    return _shaken.pop() if _shaken else None
+
+
 def pytest_configure(config: Any) -> None:
     """Where the option is given, each test is recorded."""
     folder: Optional[str] = config.getoption(_OPTION)
-    if not folder:
+    if not folder or config.getoption(_SHAKE) is not None:
         return
     is_first = not hasattr(config, "workerinput")  # which a worker of pytest-xdist has
-    with _refusing():
+    with _refusing(_OPTION):
         from .recorded import RecordedTests
 
         tests = RecordedTests(Path(folder).resolve(), config.getoption("--deferreds-plain"), is_first)

@@ -56,7 +56,6 @@ import twisted
 from ...arguments import USAGE, Parser
 from ...checkout import as_called, command_name
 from ...ending import ProgramStatus
-from ...program import NOT_RUN
 from ...view.names import PLACES
 
 from ..instruments import install
@@ -80,8 +79,9 @@ from ..shaking.choices import Choices
 from ..shaking.install import install as install_shaking
 from ..shaking.options import TAKE_WORD, add_options, problem_of, settings_of, wanted_of
 from ..shaking.plain import run_plain
-from ..shaking.search import FAILED, PASSED, UNUSABLE, Program, Search
+from ..shaking.search import Program, Search
 from ..shaking.shaker import Shaker
+from ..shaking.tally import Tally
 from ..shaking.tests import ShakenTest, has_reactor, names_of, record_one, run_test
 from ..telling import KINDS
 
@@ -298,29 +298,35 @@ def _shake_tests(arguments: argparse.Namespace, messages: Messages) -> int:
     reactor = arguments.reactor or ""
     if reactor and not has_reactor(reactor):
         raise Refused(USAGE, f"there is no reactor {reactor}")
-    statuses: Set[int] = set()
+    tally = Tally()
     with tempfile.TemporaryDirectory(prefix="deferreds.") as room:
         for name in names:
             messages.say(name)
-            statuses.add(_shake_test(arguments, messages, ShakenTest(name, room, reactor), len(names) == 1))
-    return next(status for status in (FAILED, NOT_RUN, UNUSABLE, PASSED) if status in {*statuses, PASSED})
+            search = _search_of_test(arguments, messages, ShakenTest(name, room, reactor), len(names) == 1)
+            tally.add(name, search.run(), search.met)
+    if len(names) > 1:
+        messages.say(tally.said)
+    return tally.status
 
 
-def _shake_test(arguments: argparse.Namespace, messages: Messages, test: ShakenTest, is_only: bool) -> int:
-    """Shakes a test. Its recording has the name of its method, or that of its class, too, if it isn't the only one."""
+def _search_of_test(arguments: argparse.Namespace, messages: Messages, test: ShakenTest, is_only: bool) -> Search:
+    """The search that shakes a test. Its recording has the name of its method, or that of its class, too, if it isn't the only one."""
     arguments.view = True
     parts = test.name.split(".")
     usual = parts[-1] if is_only else ".".join(parts[-2:])
     kinds = KINDS - set(arguments.plain.split(","))
 
     def recorded(name: str) -> int:
-        keeping = _keeping(arguments, name, Messages(command_name("record")))
-        status, recorder = record_one(test, kinds, arguments.redact or SECRETS)
-        keeping.keep(Said(recorder), "failed" if status else "passed")
+        install()
+        recorder = Recorder(kinds, arguments.redact or SECRETS)
+        keeper = Keeper(recorder, _keeping(arguments, name, Messages(command_name("record"))))
+        with Endings(keeper).watched():
+            status = record_one(test, recorder)
+            keeper.keep("failed" if status else "passed")
         return status
 
     place = _keeping(arguments, _name(arguments.output, usual), messages).place
-    return Search(Program(lambda: run_test(test), recorded), wanted_of(arguments), place, messages).run()
+    return Search(Program(lambda: run_test(test), recorded), wanted_of(arguments), place, messages)
 
 
 def _notes(keeping: Keeping, overwrites: bool, redact: str, messages: Messages) -> NotesFile:

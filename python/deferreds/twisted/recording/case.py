@@ -46,7 +46,12 @@ class TestRun:
 def record_test(cls: type[unittest.TestCase], method: str, kinds: frozenset[str], virtual: bool, redact: str = SECRETS) -> TestRun:
     """Runs one test, on the real reactor or on one whose time is virtual. `redact` says what is hidden, as of a Recorder."""
     install()
-    run = TestRun(Recorder(kinds, redact))
+    return run_test(cls, method, Recorder(kinds, redact), virtual)
+
+
+def run_test(cls: type[unittest.TestCase], method: str, recorder: Recorder, virtual: bool = False) -> TestRun:
+    """Runs one test under this recorder. The instruments are in."""
+    run = TestRun(recorder)
     case = cls(method)
     recorded = (_OnVirtual if virtual else RecordedCase)(case, lambda: run.recorder, in_next_turn=True)
     result = unittest.TestResult()

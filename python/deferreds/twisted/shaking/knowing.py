@@ -2,6 +2,7 @@
 
 from __future__ import annotations
 
+import functools
 import os
 
 from ...program import NOT_RUN
@@ -15,6 +16,7 @@ _SECONDS = 60.0
 _STANDARD_ERROR = 2
 
 
+@functools.lru_cache(maxsize=None)
 def why_unknown() -> str:
     """Why it isn't known; an empty text, if it is."""
     ended = run(_check, _SECONDS)

@@ -40,6 +40,8 @@ _TRIES = 3
 #: how many perturbations the list of the files names at most
 _MOST_LISTED = 100
 _LINES_OF_OUTPUT = 3
+#: after how many runs that have met nothing no more are made: in a run each kind may be off, but not in all of these
+_MOST_UNMET = 12
 
 
 class Program(NamedTuple):
@@ -61,6 +63,8 @@ class Wanted(NamedTuple):
     cuts: bool
     #: whether errors that are logged count
     looks_at_log: bool = True
+    #: whether the command has the options that run a failing run again
+    says_again: bool = True
 
 
 class Found(NamedTuple):
@@ -145,6 +149,9 @@ class Search:
         first, times = self._wanted.settings.seed, self._wanted.times
         for number in range(times):
             self._progress.show(f"{number} of {runs(times)}")
+            if number == _MOST_UNMET and not self.met:
+                self._progress.say(f"none of {number} shaken runs failed, {self._progress.seconds}; they met nothing that is shaken, so no more are made")
+                return None
             settings = self._wanted.settings._replace(seed=first + number)
             ended = self._shaken(settings)
             self.met.update(key.split(" ", 1)[0] for key in ended.met)
@@ -209,7 +216,7 @@ class Search:
         facts_of_it = self._room.facts or {}
         written = self._room.keep(shaken)
         if written is None:
-            self._progress.say("the failing run has no recording: it has used no Deferreds")
+            self._progress.say(f"the failing run has left no recording: it {'was ended before that' if why.is_late else 'has used no Deferreds'}")
             return
         for failure in written.failures:
             self._progress.say(failure)
@@ -237,8 +244,9 @@ class Search:
         sentences = [self._sentence(found, needed.keys, key, words[key]) for key in needed.keys]
         said = f"it fails if {', and '.join(dict.fromkeys(sentences))}"
         self._progress.say(said)
-        again = " ".join(f"--only '{key}'" for key in needed.keys)
-        self._progress.say(f"again: --seed {found.settings.seed} {again}")
+        if self._wanted.says_again:
+            again = " ".join(f"--only '{key}'" for key in needed.keys)
+            self._progress.say(f"again: --seed {found.settings.seed} {again}")
         facts = {"perturbations": {key: words[key] for key in needed.keys}, "needs": said, "of": len(all_keys)}
         self._keep(found, needed.keys, facts)
 

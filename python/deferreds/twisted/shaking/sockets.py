@@ -55,7 +55,8 @@ class _Names:
         kind, place = cleaned(type(thing).__name__), place_of_program()
         which = f"{kind}@{place}" if place else kind
         number = self._counts.next(which)
-        return Name(f"{which}#{number}", f"{_kind_of(thing)} {number} {f'made at {place}' if place else 'of those that Twisted made'}")
+        asked = f"made at {place}" if place else "of Twisted's own"
+        return Name(f"{which}#{number}", f"{_kind_of(thing)} {number} {asked}")
 
     def accepted(self, thing: Any, port: Any) -> Name:
         """The name of a connection that a port has accepted."""

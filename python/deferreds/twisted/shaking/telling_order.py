@@ -35,11 +35,7 @@ def sentence(key: str, words: str, run: Runs) -> str:
         return words
     moved = _moved(key)
     seen = _shorter_and_shorter(key, run)
-    found = _passed(moved, seen)
-    if found is None:
-        return words
-    mover, other = found
-    return f"{mover} comes after {other}"
+    return _passed(moved, seen) or _missing(moved, seen) or words
 
 
 def _moved(key: str) -> str:
@@ -69,24 +65,41 @@ def _shorter_and_shorter(key: str, run: Runs) -> List[Seen]:
     return seen
 
 
-def _passed(moved: str, seen: Sequence[Seen]) -> Optional[Tuple[str, str]]:
-    """The words of what is moved, and of what it comes after in each run that fails and before in each that passes, if there is such.
+def _passed(moved: str, seen: Sequence[Seen]) -> str:
+    """What is moved comes after what: a thing before it in each run that fails, and after it in each that passes. Nothing, if none is.
 
-    One run may differ, since threads aren't determined. There may be several: it is the one with the fewest such runs, and of these the
-    one that comes last before what is moved, in the run that fails with the shortest delay.
+    There may be several: it is the one that comes last before what is moved, in the run that fails with the shortest delay.
     """
     known = [one for one in seen if _place(one, moved) is not None]
     failing = [one for one in known if one.failed]
     if not failing or len(failing) == len(known):
-        return None
+        return ""
     latest = failing[-1]
-    place = _place(latest, moved)
-    before = [(name, words) for name, words in reversed(latest.came[:place]) if name != moved]
-    exceptions = [sum(_is_after(one, moved, name) != one.failed for one in known) for name, _ in before]
+    place = _place(latest, moved) or 0
+    other = _other(moved, known, list(reversed(latest.came[:place])))
+    return f"{latest.came[place][1]} comes after {other}" if other else ""
+
+
+def _missing(moved: str, seen: Sequence[Seen]) -> str:
+    """What comes before what is moved in each run that fails, in which the latter doesn't come at all: the first such thing."""
+    failing = [one for one in seen if one.failed]
+    passing = [one for one in seen if not one.failed and _place(one, moved) is not None]
+    if not failing or not passing or _place(failing[-1], moved) is not None:
+        return ""
+    words = passing[-1].came[_place(passing[-1], moved) or 0][1]
+    other = _other(moved, [*failing, *passing], failing[-1].came)
+    return f"{other} comes before {words}" if other else ""
+
+
+def _other(moved: str, seen: Sequence[Seen], candidates: Sequence[Tuple[str, str]]) -> str:
+    """The words of the first of the candidates that tells runs that fail from those that pass, or of one that does so but for one run.
+
+    (Threads aren't determined.)
+    """
+    things = [(name, words) for name, words in candidates if name != moved]
+    exceptions = [sum(_is_after(one, moved, name) != one.failed for one in seen) for name, _ in things]
     least = min(exceptions, default=_MOST_EXCEPTIONS + 1)
-    if least > _MOST_EXCEPTIONS:
-        return None
-    return latest.came[place or 0][1], before[exceptions.index(least)][1]
+    return things[exceptions.index(least)][1] if least <= _MOST_EXCEPTIONS else ""
 
 
 def _place(seen: Seen, name: str) -> Optional[int]:

@@ -11,7 +11,7 @@ from twisted.application.reactors import getReactorTypes, installReactor
 from twisted.trial import util  # noqa: F401  (so that what is forked has its janitor)
 from twisted.trial.unittest import SynchronousTestCase, TestCase
 
-from ..recording.case import record_test
+from ..recording.case import run_test as run_recorded
 from ..recording.programs import NotLoaded, tests_of
 from ..recording.recorder import Recorder
 from .log import Log
@@ -75,11 +75,11 @@ def run_test(test: ShakenTest) -> int:
     return int(not result.wasSuccessful())
 
 
-def record_one(test: ShakenTest, kinds: frozenset[str], redact: str) -> Tuple[int, Recorder]:
-    """Runs a test likewise under the recorder. Gives 0 if it passes, or is skipped, and what was recorded."""
+def record_one(test: ShakenTest, recorder: Recorder) -> int:
+    """Runs a test likewise under a recorder. Gives 0 if it passes, or is skipped."""
     case: Any = test.loaded()
-    ran = record_test(type(case), case._testMethodName, kinds, False, redact)
+    ran = run_recorded(type(case), case._testMethodName, recorder)
     if not ran.passed:
         print(ran.why)
-    return int(not (ran.passed or ran.skipped)), ran.recorder
+    return int(not (ran.passed or ran.skipped))
 
