@@ -45,7 +45,7 @@ class SearchTest(ShakenCase):
 
     def test_a_run_that_hangs_is_recorded_as_it_hangs(self) -> None:
         for seconds in ("3", "20"):  # (on a busy machine a run may take three seconds until it can be asked for its recording)
-            ended = self.shake("--shake", "60", "--shaken", "start", "--within", seconds, "--no-cut", "hangs.py")
+            ended = self.shake("--shake", "60", "--shaken", "start", "--longest", "200", "--within", seconds, "--no-cut", "hangs.py")
             self.assertEqual(ended.status, 1, ended.said)
             self.assertIn(f": it takes longer than {seconds} s\n", ended.said)
             if "hangs.recording" in self.files():
@@ -54,13 +54,13 @@ class SearchTest(ShakenCase):
         self.assertIn(" unfired\n", self.text("hangs.journal"))
 
     def test_what_is_left_counts_if_it_is_asked_for(self) -> None:
-        words = ["--shaken", "start,job", "--no-cut"]
+        words = ["--shaken", "start,job", "--longest", "200", "--no-cut"]
         ended = self.shake("--shake", "40", "--until", "left", *words, "quiet_lock_order.py")
         self.assertEqual(ended.status, 1, ended.said)
         self.assertIn("left at its end: a token of lock_work_", ended.said)
 
     def test_a_command_judges(self) -> None:
-        ended = self.shake("--shake", "40", "--shaken", "start,job", "--no-cut", "--until", "grep -q 'balance 130'", "judged.py")
+        ended = self.shake("--shake", "40", "--shaken", "start,job", "--longest", "200", "--no-cut", "--until", "grep -q 'balance 130'", "judged.py")
         self.assertEqual(ended.status, 1, ended.said)
         self.assertIn("`grep -q 'balance 130'` has status 1", ended.said)
         wrong = self.shake("--shake", "2", "--until", "false", "mended/lost_update.py")
