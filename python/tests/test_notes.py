@@ -188,6 +188,22 @@ class Killed(RecordingCase):
         self.assertIn('note "idle"\n', self.text("run.journal"))
         self.assert_goes_together("run")
 
+    def test_all_that_came_before_an_idle_loop_of_asyncio_was_killed(self) -> None:
+        program = (
+            "import asyncio\nfrom twisted.internet import asyncioreactor\nasyncioreactor.install()\n"
+            "from twisted.internet import defer, reactor\n"
+            "def come():\n for text in ('first', 'second', 'third'):\n  defer.succeed(text)\n"
+            "asyncio.get_event_loop_policy().get_event_loop().call_later(0.2, come)\nreactor.run()\n"
+        )
+        (self.folder / "idles.py").write_text(program, encoding="utf-8")
+        process = self.start("-o", "run", "--notes", str(self.folder / "idles.py"))
+        notes = self.folder / "run.notes"
+        self.wait_for(lambda: notes.exists() and b"third" in notes.read_bytes(), "the last event before the loop idles")
+        process.kill()
+        self.end(process)
+        self.assertEqual(self.record("--from", "run.notes").status, 0)
+        self.assert_goes_together("run")
+
     def test_wherever_it_is_killed_a_good_beginning_is_left(self) -> None:
         chosen, lengths = random.Random(1), set()
         for number in range(12):

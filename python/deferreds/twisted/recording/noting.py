@@ -6,8 +6,9 @@ awaits, a job, a loop and a Cooperator. A change is written as a note of its own
 
 from __future__ import annotations
 
+import asyncio
 import gc
-import os
+from contextvars import Context
 from fractions import Fraction
 from itertools import islice
 from time import monotonic  # (by its own name: the program may replace that of the module)
@@ -164,6 +165,8 @@ class Noting:
         #: when the next segment may be written, though it is short
         self._next = 0.0
         self._is_writing = False
+        #: whether asyncio's loop is asked to tell of its next turn
+        self._is_asked = False
         self._ways: Dict[type, Callable[[Any], None]] = {
             Record: self._record,
             Time: self._time,
@@ -199,6 +202,19 @@ class Noting:
         """An event has ended."""
         if _length(self._recorder.parts) >= _MOST_PARTS or monotonic() >= self._next:
             self.write_rest()
+        elif not self._is_asked:
+            self._ask_loop()
+
+    def _ask_loop(self) -> None:
+        """Has asyncio's loop tell of its next turn, if it runs: it calls much of which no reactor knows."""
+        loop = asyncio._get_running_loop()
+        if loop is not None:
+            self._is_asked = True
+            loop.call_soon(self._write_asked, context=Context())
+
+    def _write_asked(self) -> None:
+        self._is_asked = False
+        self.write_rest()
 
     def write_rest(self) -> None:
         """Writes what is new, if nothing happens now."""
