@@ -10,7 +10,7 @@ import tempfile
 import textwrap
 import unittest
 from pathlib import Path
-from typing import Any, Dict, List
+from typing import Any, Dict, List, Tuple
 
 from deferreds.twisted.recording.places import line_of
 
@@ -55,6 +55,68 @@ _MAKER = """
         return Deferred()
 """
 
+_AWAITS = """
+    from twisted.internet import defer
+    from twisted.internet.defer import Deferred
+
+    async def inner():
+        await later[0]
+
+    async def outer():
+        await later[1]
+        await inner()
+
+    @defer.inlineCallbacks
+    def steps():
+        yield later[2]
+        yield (
+            later[3]
+        )
+
+    later = [Deferred() for _ in range(4)]
+    defer.ensureDeferred(outer())
+    steps()
+    for one in reversed(later):
+        one.callback(2)
+"""
+
+
+def _recorded(folder: Path, texts: Dict[str, str]) -> Tuple[Dict[str, Any], Dict[str, Any]]:
+    """The script and the places of `program.py` among these files, recorded in a folder."""
+    for name, text in texts.items():
+        (folder / name).write_text(textwrap.dedent(text), encoding="utf-8")
+    ran = subprocess.run(
+        [sys.executable, "-m", "deferreds.twisted", "record", "-o", "run", "program.py"],
+        cwd=folder,
+        env={**os.environ, "PYTHONPATH": os.pathsep.join(map(os.path.abspath, filter(None, sys.path)))},
+        stdout=subprocess.DEVNULL,
+        stderr=subprocess.PIPE,
+        text=True,
+        check=False,
+    )
+    if ran.returncode != 0:
+        raise AssertionError(ran.stderr)
+    return json.loads((folder / "run.json").read_text(encoding="utf-8")), json.loads((folder / "run.places.json").read_text(encoding="utf-8"))
+
+
+class AwaitsTest(unittest.TestCase):
+    """A recorded program, and the lines in which its bodies await."""
+
+    def test_each_await_has_the_line_where_its_body_stands(self) -> None:
+        room = tempfile.TemporaryDirectory()
+        self.addCleanup(room.cleanup)
+        script, places = _recorded(Path(room.name).resolve(), {"program.py": _AWAITS})
+        lines = textwrap.dedent(_AWAITS).splitlines()
+        found: Dict[str, str] = {}
+        for pointer, (_, line) in places["actions"].items():
+            at: Any = script
+            for key in pointer.split("/")[1:]:
+                at = at[int(key)] if isinstance(at, list) else at[key]
+            if at[0] == "await":
+                found[at[1]] = lines[line - 1].strip()
+        made = [name for name, (_, line) in places["deferreds"].items() if lines[line - 1].startswith("later = ")]
+        self.assertEqual([found[name] for name in made], ["await later[0]", "await later[1]", "yield later[2]", "yield ("])
+
 
 class PlacesTest(unittest.TestCase):
     """A recorded program, and the file of its places."""
@@ -68,21 +130,7 @@ class PlacesTest(unittest.TestCase):
         room = tempfile.TemporaryDirectory()
         cls.addClassCleanup(room.cleanup)
         cls.folder = Path(room.name).resolve()
-        for name, text in (("program.py", _PROGRAM), ("maker.py", _MAKER)):
-            (cls.folder / name).write_text(textwrap.dedent(text), encoding="utf-8")
-        ran = subprocess.run(
-            [sys.executable, "-m", "deferreds.twisted", "record", "-o", "run", "program.py"],
-            cwd=cls.folder,
-            env={**os.environ, "PYTHONPATH": os.pathsep.join(map(os.path.abspath, filter(None, sys.path)))},
-            stdout=subprocess.DEVNULL,
-            stderr=subprocess.PIPE,
-            text=True,
-            check=False,
-        )
-        if ran.returncode != 0:
-            raise AssertionError(ran.stderr)
-        cls.script = json.loads((cls.folder / "run.json").read_text(encoding="utf-8"))
-        cls.places = json.loads((cls.folder / "run.places.json").read_text(encoding="utf-8"))
+        cls.script, cls.places = _recorded(cls.folder, {"program.py": _PROGRAM, "maker.py": _MAKER})
 
     def line(self, place: List[int], file: str = "program.py") -> str:
         """The line of the program at a place, which is in this file."""
@@ -116,7 +164,7 @@ class PlacesTest(unittest.TestCase):
     def test_each_action_of_a_body_has_its_line(self) -> None:
         inside = [self.any_line(place) for action, place in self.places["actions"].items() if action.count("/") > 2]
         made_and_fired = ["return Deferred()", "lambda value: made().callback(value)"]
-        self.assertEqual(sorted(inside), sorted([*made_and_fired, "clock.advance(1)", "return Deferred()", "token.unpause()"]))
+        self.assertEqual(sorted(inside), sorted([*made_and_fired, "clock.advance(1)", "return Deferred()", "token.unpause()", "yield d"]))
 
     def any_line(self, place: List[int]) -> str:
         """The line at a place, in whichever file."""

@@ -173,39 +173,38 @@ class OddOnes(unittest.TestCase):
 
 
 class Overtaken(unittest.TestCase):
-    """A result that came after that of what began later."""
+    """A job whose result came after that of what began later."""
 
-    def late(self, lines: Sequence[str]) -> List[int]:
-        run = run_of(lines, {name: 3 for name in (line.split()[2] for line in lines if line.startswith("new #"))})
-        return [one.late.number for one in overtaken(run.fold, run.inferred.sites)]
+    def late(self, order: Sequence[int], lines: Sequence[int] = (3, 3, 3)) -> List[List[int]]:
+        """The numbers of the first that was overtaken, of the one that came first, and how many others came late, for each line."""
+        run = self.of_jobs(order, lines)
+        return [[one.late.number, one.first.number, one.others] for one in overtaken(run.inferred.sites)]
 
     @staticmethod
-    def jobs(order: Sequence[int]) -> List[str]:
+    def of_jobs(order: Sequence[int], lines: Sequence[int]) -> Run:
         begun = [line for job in range(len(order)) for line in (f"new #{job} d{job}", f"job {job} #{job}")]
-        return begun + [line for job in order for line in (f"deliver {job}", f"fire #{job} ok 1")]
+        came = [line for job in order for line in (f"deliver {job}", f"fire #{job} ok 1")]
+        return run_of([*begun, *came], {f"d{job}": line for job, line in enumerate(lines)})
 
-    def test_of_jobs_each_counts(self) -> None:
-        self.assertEqual(self.late(self.jobs([0, 1, 2])), [])
-        self.assertEqual(self.late(self.jobs([1, 0, 2])), [0])
-        self.assertEqual(self.late(self.jobs([2, 1, 0])), [0, 1])
+    def test_a_row_for_each_line(self) -> None:
+        self.assertEqual(self.late([0, 1, 2]), [])
+        self.assertEqual(self.late([1, 0, 2]), [[0, 1, 0]])
+        self.assertEqual(self.late([2, 1, 0]), [[0, 2, 1]])
+        self.assertEqual(self.late([1, 2, 0]), [[0, 1, 0]])
 
-    def test_of_others_only_where_the_line_keeps_the_order_else(self) -> None:
-        def answers(order: Sequence[int]) -> List[int]:
-            made, fired = [f"new #{n} d{n}" for n in range(len(order))], [f"fire #{n} ok 1" for n in order]
-            lines = journal(*made, *fired)
-            begins = list(range(2 * len(order)))
-            run = run_of_journal(lines, "test", None, False, begins)
-            run.places = Places({f"d{n}": Place("/srv/a.py", 3) for n in range(len(order))}, {})
-            return [one.late.number for one in overtaken(run.fold, run.inferred.sites)]
+    def test_jobs_of_other_lines_don_t_count(self) -> None:
+        self.assertEqual(self.late([1, 0, 2], (3, 4, 3)), [])
 
-        self.assertEqual(answers([1, 0, 2]), [0])
-        self.assertEqual(answers([1, 0, 3, 2]), [])
-        self.assertEqual(answers([*range(10), 11, 10, 13, 12]), [])
-        self.assertEqual(answers([*range(12), 13, 12, 15, 14]), [12, 14])
-
-    def test_those_of_others_are_told_only_if_nothing_else_is(self) -> None:
-        run = run_of(self.jobs([1, 0, 2]), {f"d{n}": 3 for n in range(3)})
+    def test_it_is_a_note(self) -> None:
+        run = self.of_jobs([2, 1, 0], (3, 3, 3))
         self.assertEqual([(one.kind, one.severity) for one in run.report.findings], [(Kind.OVERTAKEN, Severity.NOTE)])
+        self.assertIn("1 other job of this line came late, too", report_of(run)[0])
+        self.assertTrue(run.report.leaves_nothing)
+
+    def test_answers_of_a_network_may_come_in_any_order(self) -> None:
+        run = run_of_journal(journal("new #0 a", "new #1 a", "fire #1 ok 1", "fire #0 ok 1"), "test", None, False, [0, 1, 2, 3])
+        run.places = Places({"a": Place("/srv/a.py", 3)}, {})
+        self.assertTrue(run.report.is_clean)
 
 
 class AfterACancel(unittest.TestCase):

@@ -108,7 +108,7 @@ class ShownTest(unittest.TestCase):
         self.write("run.places.json", json.dumps(_PLACES))
         page = self.page(*self.journal())
         link = f'<a class=at target=_top href="{_ADDRESS}" title="/srv/a b/&lt;i&gt;.py:12"><bdi>&lt;i&gt;.py:12</bdi></a>'
-        self.assertEqual(page.count(link), 2)  # in the report, and at the outcome
+        self.assertEqual(page.count(link), 3)  # in the report, at the outcomes, and at the row that makes it
         self.assertIn('<span class=at title="relative.py:3"><bdi>relative.py:3</bdi></span>', page)
         self.assertIn("<span>Made at</span>", page)
         self.assertIn("lines that fire one of this name: <", page)

@@ -42,7 +42,7 @@ _CAUSES = {
     ),
     "payments": Cause(
         Kind.SWALLOWED,
-        ['nobody got "receipt-13 card-6 312"', "14 were made there: 13 ok, 1 cancelled", 'made another there: #98·ask_33_13, fired with ok "receipt-12 card-6 312"'],
+        ['nobody got "receipt-13 card-6 312"', "14 were made there: 13 ok, 1 cancelled", 'made another there: #96·ask_33_13, fired with ok "receipt-12 card-6 312"'],
         {"wire.py:33": "defer.Deferred()", "wire.py:41": "answer.callback("},
     ),
     "payments_small": Cause(
@@ -52,8 +52,8 @@ _CAUSES = {
     ),
     "warehouse": Cause(
         Kind.ODD,
-        ["was unfired for 1.4", "43 were made there: 41 ok, 1 cancelled, 1 fail", "order_103_7", "a guess"],
-        {"wire.py:33": "defer.Deferred()", "warehouse.py:103": "shop.order("},
+        ["was unfired for 1.4", "43 were made there: 41 ok, 1 cancelled, 1 fail", "order_103_7, made at warehouse.py:103, awaited it at warehouse.py:67", "a guess"],
+        {"wire.py:33": "defer.Deferred()", "warehouse.py:103": "shop.order(", "warehouse.py:67": 'await self.warehouse.ask("reserve"'},
     ),
     "stock_levels": Cause(
         Kind.OVERTAKEN,
@@ -150,10 +150,10 @@ class ByLine(unittest.TestCase):
         table = lines[lines.index("") + 1 :]
         self.assertEqual(table[0].split("  ")[0], "made at")
         self.assertEqual(len(table) - 1, len(run.inferred.sites.all))
-        self.assertRegex(table[1], r"^wire\.py:33 ask +16 +13 ok, 1 fail, 2 unfired +0\.033 s +0\.8\d+ s +#71 #100$")
+        self.assertRegex(table[1], r"^wire\.py:33 ask +16 +13 ok, 1 fail, 2 unfired +0\.043 s +0\.8\d+ s +#71 #101$")
         page = written_page(run)
         self.assertEqual(page.count("<summary class=site>"), len(run.inferred.sites.all))
-        self.assertIn("<span>13 ok, 1 fail, 2 unfired</span><span>0.033 s</span>", page)
+        self.assertIn("<span>13 ok, 1 fail, 2 unfired</span><span>0.043 s</span>", page)
 
     def test_the_outcomes_of_a_text_stand_below_their_lines(self) -> None:
         lines = list(Terminal(run_of_service("mailer"), False).lines())
@@ -188,10 +188,10 @@ class Words(unittest.TestCase):
     def test_times_are_seconds(self) -> None:
         run = run_of_service("warehouse")
         page, lines = written_page(run), list(Terminal(run, False).lines())
-        self.assertRegex(lines[1], r"^1296 lines, 151 Deferreds, 217 events, 1\.6\d\d s, a tick is 1 µs$")
-        self.assertTrue(any(line.split()[1:4] == ["0.001", "s", "advance"] for line in lines))
+        self.assertRegex(lines[1], r"^1298 lines, 151 Deferreds, 219 events, 1\.6\d\d s, a tick is 1 µs$")
+        self.assertTrue(any(re.match(r" *\d+ +0\.0\d+ s advance \d+000 ", line) for line in lines))
         self.assertIn("<div class=what>  line  seconds   what happened</div>", page)
-        self.assertIn(">0.001</text>", page)
+        self.assertRegex(page, r"<text class=time x=2 y=\d+>0\.0\d+</text>")
         self.assertRegex(page, r"<text x=[\d.]+% y=12>0\.5 s</text>")
 
 

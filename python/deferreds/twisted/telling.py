@@ -813,6 +813,9 @@ class Observer:
     def locate_action(self, action: Action, inside: int) -> None:
         """Notes where the program is, if that is where an action will have run. So many frames, from the caller's on, aren't its."""
 
+    def locate_await(self, awaited: Any, generator: Any) -> None:
+        """Notes where the generator or the coroutine of an inline body stands, which awaits."""
+
     def value(self, outcome: Outcome) -> Any:
         """A value of the program's that is shown so, as an action of it has it."""
         return None

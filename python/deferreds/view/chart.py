@@ -120,7 +120,9 @@ class Chart:
         cause = self._markup.said(row.cause, 80) if row.cause and not _shows_cause(row) else Html("")
         arrow_ = Html(f"← {cause}") if cause else Html("")
         said = Html(f"{isolated(clipped(tail, _MOST_WHY))}{self._at(row)}") if tail else Html("")
-        return Html("   ".join(filter(None, [arrow_, said])))
+        place = self._events.place_of(row)
+        where = placed(place) if place is not None else Html("")
+        return Html("   ".join(filter(None, [arrow_, said, where])))
 
     def _at(self, row: Row) -> Html:
         """Where in the program the event was performed that begins in this row."""

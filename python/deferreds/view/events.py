@@ -10,6 +10,7 @@ from .fold import Fold
 from .nesting import LAST_POSTS
 from .places import NOWHERE, Place, Places
 from .records import Row
+from .row_places import RowPlaces
 from .scripts import Script
 
 #: lines that tell by themselves what their event is
@@ -19,9 +20,10 @@ _TELLING = frozenset({"advance", "drain", "note", "new"})
 class Events:
     """The heads of events, and the words behind lines."""
 
-    def __init__(self, fold: Fold, script: Script, places: Places = NOWHERE) -> None:
+    def __init__(self, fold: Fold, script: Script, places: Places = NOWHERE, row_places: Optional[RowPlaces] = None) -> None:
         self._script = script
         self._places = places
+        self._row_places = row_places if row_places is not None else RowPlaces(fold, script, places)
         first: Dict[int, Row] = {}
         size: Dict[int, int] = {}
         for row in fold.rows:
@@ -54,6 +56,10 @@ class Events:
     def place(self, row: Row) -> Optional[Place]:
         """Where in the program the event was performed that begins in this row, if one does."""
         return self._places.of_event(row.event) if row.event is not None and self._begins(row) else None
+
+    def place_of(self, row: Row) -> Optional[Place]:
+        """Which line of the program the row tells of, if the event that begins in it doesn't show that beside it."""
+        return self._row_places.of(row) if row.place not in self._tails or self.place(row) is None else None
 
     def whole(self, row: Row, most: int) -> str:
         """The event that begins in the row as the script has it, where that says more than `most` characters, or than its short text."""

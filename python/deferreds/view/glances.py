@@ -31,7 +31,7 @@ class Size:
 
     def counts(self, events: int = 0, tick: str = "") -> str:
         """How large the run is, in words."""
-        return counts_of(self.lines, self.deferreds, events, self.time, tick, self.weight)
+        return counts_of(self.lines, self.deferreds, events, self.time, tick, "" if tick else self.weight)
 
 
 def blocks_of(file: IO[bytes]) -> Iterator[bytes]:

@@ -18,6 +18,7 @@ from .overtaken import Overtaken, overtaken
 from .phrases import OfDeferred, OfLine, OfPlace, OfScript, Phrase, words
 from .places import Place, Places
 from .records import Record
+from .row_places import RowPlaces
 from .scripts import Script
 from .sites import FAIL, Site, Sites, end_of
 from .sizes import several
@@ -31,10 +32,11 @@ _MOST_HELD = 3
 class Inferred:
     """What may be the cause of what is left, or of what went another way than usual."""
 
-    def __init__(self, fold: Fold, script: Script, places: Places, durations: Durations, tick: str) -> None:
+    def __init__(self, fold: Fold, script: Script, places: Places, row_places: RowPlaces, durations: Durations, tick: str) -> None:
         self._fold = fold
         self._script = script
         self._places = places
+        self._row_places = row_places
         self._durations = durations
         self._tick = tick
         #: the lines of the program that made Deferreds
@@ -104,6 +106,11 @@ class Inferred:
         place = self._places.of_deferred(self._fold.records[number].names)
         return words(" at ", OfPlace(place)) if place is not None else words()
 
+    def awaits_at(self, body: Record) -> Phrase:
+        """The line of the program in which a body awaited last, as the end of a sentence, if that is known."""
+        place = self._row_places.of(self._fold.rows[body.awaits_at]) if body.awaits_at is not None else None
+        return words(" at ", OfPlace(place)) if place is not None else words()
+
     def _made(self, number: int) -> Phrase:
         """Where a Deferred was made, between commas."""
         at = self._at(number)
@@ -130,7 +137,7 @@ class Inferred:
             return ("held for ", OfDeferred(held.deferred), *since, *by)
         body = self._fold.records[held.body]
         if body.fired is None and body.awaits is not None:
-            return ("held by ", OfDeferred(held.body), *since, ", whose body awaits ", OfDeferred(body.awaits))
+            return ("held by ", OfDeferred(held.body), *since, ", whose body awaits ", OfDeferred(body.awaits), *self.awaits_at(body))
         return ("held by ", OfDeferred(held.body), *since)
 
     # Deferreds among those of their line
@@ -166,7 +173,10 @@ class Inferred:
     def _waiters(self, record: Record) -> List[Phrase]:
         """The bodies that awaited a Deferred last."""
         numbers = self._awaiting.get(record.number, [])
-        return [("the inline body of ", OfDeferred(number), *self._made(number), " awaited it") for number in numbers[:_MOST_HELD]]
+        return [self._waiter(self._fold.records[number]) for number in numbers[:_MOST_HELD]]
+
+    def _waiter(self, body: Record) -> Phrase:
+        return ("the inline body of ", OfDeferred(body.number), *self._made(body.number), " awaited it", *self.awaits_at(body))
 
     def again(self, record: Record) -> List[Phrase]:
         """What the body that made a cancelled Deferred made at the same line after the cancel: a retry, it seems."""
@@ -192,7 +202,9 @@ class Inferred:
         by = in_whom(self._fold.said_by(rows[one.cancel].actor))
         said = words(OfDeferred(body.number), *self._made(body.number), " went on after it was cancelled")
         awaited = rows[one.awaited[0]].entry.other
-        next_one = words("then its body awaited ", OfDeferred(awaited), *self._made(awaited), " in ", OfLine(one.awaited[0]))
+        place = self._row_places.of(rows[one.awaited[0]])
+        at = words(" at ", OfPlace(place)) if place is not None else words()
+        next_one = words("then its body awaited ", OfDeferred(awaited), *at, " in ", OfLine(one.awaited[0]))
         more = [(several(len(one.awaited) - 1, "more await followed", "more awaits followed"),)] if len(one.awaited) > 1 else []
         cancelled = words("it was cancelled in ", OfLine(one.cancel), *by)
         guess = words("a guess: it may only clean up")
@@ -200,16 +212,16 @@ class Inferred:
 
     # results that came late
 
-    def overtaken(self, only_jobs: bool) -> List[Finding]:
-        """The results that came after those of what began later; only those of jobs, if there are other causes."""
-        found = overtaken(self._fold, self.sites)
-        return [self._overtaken(one) for one in found if one.of_job or not only_jobs]
+    def overtaken(self) -> List[Finding]:
+        """The jobs whose results came after those of what began later, a row for each line of the program."""
+        return list(map(self._overtaken, overtaken(self.sites)))
 
-    def _overtaken(self, one: Overtaken) -> Finding:
+    @staticmethod
+    def _overtaken(one: Overtaken) -> Finding:
         late, first = one.late, one.first
-        what = "the result of the job of " if one.of_job else "the result of "
-        said = words(what, OfDeferred(late.number), " came after that of ", OfDeferred(first.number), ", which began later")
+        said = words("the result of the job of ", OfDeferred(late.number), " came after that of ", OfDeferred(first.number), ", which began later")
         made = words("both began at ", OfPlace(one.site.place), ", in ", OfLine(late.row), " and ", OfLine(first.row))
         came = words("they came in ", OfLine(late.fired or 0), " and ", OfLine(first.fired or 0))
+        others = [(f"{several(one.others, 'other job', 'other jobs')} of this line came late, too",)] if one.others else []
         guess = words("a guess: it isn't known whether the order matters")
-        return Finding(Severity.NOTE, Kind.OVERTAKEN, said, (made, came, guess), late.fired)
+        return Finding(Severity.NOTE, Kind.OVERTAKEN, said, details_of([made, came], others, [guess]), late.fired)

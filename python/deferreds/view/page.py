@@ -65,7 +65,7 @@ class Page:
         self.most = most
         #: the lines that the page shows first, and those that it has, of which it shows a window at a time
         self.window, self.there = parts_of(len(run.fold.rows), first, last, most)
-        self._events = Events(run.fold, run.script, run.places)
+        self._events = Events(run.fold, run.script, run.places, run.row_places)
         self._shown = Window(run, self._events, self.window, self.there)
         self._rows, self._markup = self._shown.rows, self._shown.markup
         self._ends = Outcomes(run, self._markup)

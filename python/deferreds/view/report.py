@@ -74,7 +74,7 @@ class Report:
         found = [*self._bad(finish), *self._open(), *self._notes()]
         found += inferred.went_on()
         found += inferred.odd({record.number for record in fold.records.values() if record.swallowed})
-        found += inferred.overtaken(bool(found))
+        found += inferred.overtaken()
         self.findings: List[Finding] = sorted(found, key=lambda finding: _KINDS.index(finding.kind))
 
     def count(self, severity: Severity) -> int:
@@ -230,7 +230,7 @@ class Report:
         pairs = several(record.pairs, "pair waits", "pairs wait")
         stopped: List[Phrase] = []
         if record.awaits is not None:
-            stopped = [("its body has awaited ", OfDeferred(record.awaits), ", and didn't end")]
+            stopped = [("its body has awaited ", OfDeferred(record.awaits), *self._inferred.awaits_at(record), ", and didn't end")]
         places = self._places(record) if record.made is Made.ACTION else ()
         details = details_of(
             self._made_at(record),
@@ -249,9 +249,11 @@ class Report:
         return [("made at ", OfPlace(place))] if place is not None else []
 
     def _where(self, number: int) -> Phrase:
-        """Where in the program a Deferred was made that waits for something, if that is known; of a body, what it awaits says where."""
+        """Where in the program a body awaits, or a Deferred was made that waits for something, if that is known."""
         record = self._fold.records.get(number)
-        place = self._places_of.of_deferred(record.names) if record is not None and record.awaits is None else None
+        if record is not None and record.awaits is not None:
+            return self._inferred.awaits_at(record)
+        place = self._places_of.of_deferred(record.names) if record is not None else None
         return words(", made at ", OfPlace(place)) if place is not None else words()
 
     def _places(self, record: Record) -> Phrase:

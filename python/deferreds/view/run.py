@@ -15,6 +15,7 @@ from .phrases import Phrase
 from .places import NOWHERE, Places, read_places
 from .records import Finish
 from .report import Report
+from .row_places import RowPlaces
 from .scripts import Script, read_script
 from .sections import places_of
 from .sizes import counts_of, several
@@ -49,6 +50,7 @@ class Run:
         #: how long a tick was where the run was recorded, as `1 ms`, or an empty text
         self.tick = ""
         self.durations = Durations(fold.rows)
+        self._row_places: Optional[RowPlaces] = None
         self._inferred: Optional[Inferred] = None
         self._report: Optional[Report] = None
         self._stories: Optional[Stories] = None
@@ -70,10 +72,17 @@ class Run:
         return said_of(count, self.tick)
 
     @property
+    def row_places(self) -> RowPlaces:
+        """Which line of the program each row tells of, as far as that is known."""
+        if self._row_places is None:
+            self._row_places = RowPlaces(self.fold, self.script, self.places)
+        return self._row_places
+
+    @property
     def inferred(self) -> Inferred:
         """What no line tells: causes, and the lines of the program that made Deferreds."""
         if self._inferred is None:
-            self._inferred = Inferred(self.fold, self.script, self.places, self.durations, self.tick)
+            self._inferred = Inferred(self.fold, self.script, self.places, self.row_places, self.durations, self.tick)
         return self._inferred
 
     @property

@@ -77,6 +77,13 @@ class Script:
         except RecursionError:
             return ""
 
+    def actions(self) -> Iterator[Tuple[List[Any], str]]:
+        """Each action, and whatever else is an array that begins with a text, with its place as a JSON Pointer."""
+        for key in ("events", "callers"):
+            for action, place in _actions(self._document.get(key), f"/{key}"):
+                if action and isinstance(action[0], str):
+                    yield action, place
+
     def firing(self, names: Sequence[str]) -> List[str]:
         """The places of the actions that fire a Deferred of one of the names, as JSON Pointers."""
         return [place for name in dict.fromkeys(names) for place in self._found()[0].get(name, ())]

@@ -45,7 +45,7 @@ class Terminal:
     def __init__(self, run: Run, color: bool) -> None:
         self._run = run
         self._color = color
-        self._events = Events(run.fold, run.script, run.places)
+        self._events = Events(run.fold, run.script, run.places, run.row_places)
         self._number = len(str(len(run.fold.rows)))
         times = {row.time for row in run.fold.rows}
         self._time = max((len(time_of(time, run.tick)) for time in times), default=1)
@@ -172,6 +172,7 @@ class Terminal:
         tail = self._events.tail(row)
         if tail:
             said.append(f"   ┄ {visible(clipped(tail, _MOST_EVENT) + self._at(self._events.place(row)))}")
+        said.append(visible(self._at(self._events.place_of(row))))
         return "".join(said)
 
     def _outcomes(self) -> Iterator[str]:

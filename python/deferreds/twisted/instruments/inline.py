@@ -26,6 +26,8 @@ HIDDEN = ("_cancellableInlineCallbacks.<locals>.handleCancel", "_handleCancelInl
 
 #: the frames of bodies that are made, until Twisted begins to run them
 _begun: List[Frame] = []
+#: the generators and coroutines of bodies that run, the innermost last
+_going_on: List[Any] = []
 
 
 def _instrumented_cancellable(gen: Any) -> Any:
@@ -76,6 +78,7 @@ def _instrumented_inline(result: object, gen: Any, status: Any, *context: Any) -
     frame: Frame = kept[1]
     acting, outer = watcher.acting, watcher.frame
     watcher.acting, watcher.frame, frame.outer = False, frame, outer
+    _going_on.append(gen)
     try:
         _inline_callbacks(result, gen, status, *context)
     except BaseException:
@@ -83,6 +86,7 @@ def _instrumented_inline(result: object, gen: Any, status: Any, *context: Any) -
             watcher.problem("an inline body gives a Deferred as its result", "inline")  # later Twisteds take it
         raise
     finally:
+        _going_on.pop()
         watcher.acting, watcher.frame = acting, outer
 
 
@@ -116,6 +120,7 @@ def _await(
     """Tells that the body that runs awaits, and adds the pair; has `came` hold something when the result has come."""
     frame = watcher.frame
     awaited = watcher.begin_await(frame, record)
+    watcher.locate_await(awaited, _going_on[-1])
     if frame.record is not None:
         watcher.tell("await ", frame.record, " ", record)
     watcher.tell("add ", record)

@@ -157,6 +157,19 @@ class Spots:
         else:
             self._look_round(action, frame)
 
+    def note_await(self, awaited: object, generator: Any) -> None:
+        """An inline body awaits: where it stands, or the innermost coroutine of the program that it awaits itself."""
+        own = None
+        while generator is not None:
+            frame = _frame_of(generator)
+            if frame is None:
+                break
+            if _OWN_FILES[frame.f_code.co_filename]:
+                own = frame
+            generator = getattr(generator, "cr_await", None) or getattr(generator, "gi_yieldfrom", None)
+        if own is not None:
+            self._note((awaited, own.f_code, own.f_lasti))
+
     def of_last(self, action: object, maker: Optional[str]) -> Optional[Spot]:
         """Where Twisted makes a Deferred while this action runs; None, where `locate` has to find that."""
         noted = self.noted
@@ -227,6 +240,12 @@ def is_own(file: str) -> bool:
 def is_running(file: str) -> bool:
     """Whether a file is that of a loop which runs what is due."""
     return file in _RUNNING
+
+
+def _frame_of(generator: Any) -> Optional[FrameType]:
+    """The frame of a generator or of a coroutine that has begun and goes on; None of anything else."""
+    frame = getattr(generator, "gi_frame", None) or getattr(generator, "cr_frame", None)
+    return frame if isinstance(frame, FrameType) else None
 
 
 def program_frame(inside: int = 0) -> Optional[FrameType]:

@@ -231,6 +231,10 @@ class Recorder(Observer):
         """Notes where the program is, if that is where an action will have run. So many frames, from the caller's on, aren't its."""
         self.spots.note(action, 1 + inside)
 
+    def locate_await(self, awaited: Any, generator: Any) -> None:
+        """Notes where the generator or the coroutine of an inline body stands, which awaits."""
+        self.spots.note_await(awaited, generator)
+
     def locate(self, record: Record, by_twisted: bool = False) -> None:
         """Notes where the program makes a Deferred, or Twisted's own code for it."""
         spot_ = self.spots.of_last(self._performed, self.maker) if by_twisted else None
