@@ -8,13 +8,16 @@ from typing import List, Optional, Tuple
 
 from deferreds.view import texts
 from deferreds.view.compared import Compared
+from deferreds.view.compared_lines import masked
 from deferreds.view.compared_forms import MOST_LINES, MOST_OUTCOMES, ComparedPage, text_lines
+from deferreds.view.places import Place, Places
 from deferreds.view.run import Run, run_of_journal
 from deferreds.view.scripts import Script
 
 from . import samples
 from .test_browser import InBrowser
 from .test_page import _ATTRIBUTES, _ELEMENTS, Read
+from .test_services import run_of_service
 
 _LINES = ["new #0 a", "new #1 b", "advance 3"]
 
@@ -124,7 +127,7 @@ class OfRecordings(unittest.TestCase):
             list(text_lines(compared))[2:],
             [
                 "line 3 of the first and line 4 of the second are the first that differ; 1 outcome differs",
-                "Both were recorded, so times, and the program's line numbers in names, aren't compared.",
+                "Both were recorded, so times, addresses, ports, numbers of objects and the program's line numbers in names aren't compared.",
                 "- get_7 / get_8: #0 ok 1",
                 "+ get_7 / get_8: #0 ok 2",
                 "",
@@ -222,6 +225,61 @@ class Seen(InBrowser):
         )
         self.assertEqual(len(tops), 5)
         self.assertTrue(all(len(set(pair)) == 1 for pair in tops))
+
+
+class ByLine(unittest.TestCase):
+    """Two recordings, by the lines of their programs."""
+
+    def both(self, name: str) -> Compared:
+        return Compared(run_of_service(name), run_of_service(f"{name}_mended"))
+
+    def test_the_cause_stands_at_the_top(self) -> None:
+        for name, said in (("ledger", "- held: #65·transfer_48_5 took a token"), ("warehouse", "- odd: #114·ask_33_30 was unfired"), ("payments", "- swallowed: ")):
+            lines = list(text_lines(self.both(name)))
+            self.assertTrue(lines[4].startswith(said), lines[4])
+            page = ComparedPage(self.both(name)).html()
+            self.assertLess(page.index("What the reports say"), page.index("Lines of the program whose Deferreds ended otherwise"))
+
+    def test_then_the_lines_whose_deferreds_ended_otherwise_those_with_odd_ones_first(self) -> None:
+        first = self.both("warehouse").sites[0]
+        assert first.first is not None and first.second is not None
+        self.assertEqual((first.function, first.first.said, first.second.said), ("ask", "41 ok, 1 cancelled, 1 fail", "43 ok, 1 fail"))
+        lines = list(text_lines(self.both("warehouse")))
+        self.assertIn("- ask: wire.py:33: 41 ok, 1 cancelled, 1 fail, longest 1.474 s, odd: #114", lines)
+
+    def test_answers_in_another_order_don_t_differ_if_they_are_many(self) -> None:
+        found = [one.name for one in self.both("warehouse").outcomes]
+        self.assertEqual(found, ["order_103_7", "do_book_46_10", "ask_33_32 / ask_33_23", "ask_33_44"])
+
+    def test_each_outcome_of_the_ledger_that_differs_is_a_consequence(self) -> None:
+        for one in self.both("ledger").outcomes:
+            self.assertTrue(one.first is None or one.first.end == "unfired", one.name)
+
+    def test_lines_are_known_by_their_functions(self) -> None:
+        def run(line: int, *ends: str) -> Run:
+            made = [row for number, end in enumerate(ends) for row in (f"new #{number} get_{line}_{number}", f"fire #{number} {end}")]
+            found = recorded(*made, *(f"#{number} get_{line}_{number} {end}" for number, end in enumerate(ends)))
+            found.places = Places({f"get_{line}_{number}": Place("/srv/a.py", line) for number in range(len(ends))}, {})
+            return found
+
+        same = Compared(run(3, "ok 1", "ok 2"), run(9, "ok 2", "ok 1"))
+        self.assertEqual((same.sites, same.outcomes), ([], []))
+        other = Compared(run(3, "ok 1", "ok 2"), run(9, "ok 1", 'fail ValueError ""'))
+        self.assertEqual([(one.function, one.first and one.first.said, one.second and one.second.said) for one in other.sites], [("get", "2 ok", "1 ok, 1 fail")])
+        self.assertEqual(differing(other), [("get_3_1 / get_9_1", "ok 2", 'fail ValueError ""')])
+
+    def test_what_is_another_one_in_each_run_isn_t_compared(self) -> None:
+        for one, other in (
+            ('ok "127.0.0.1:40213"', 'ok "127.0.0.1:51844"'),
+            ('ok "port 40213"', 'ok "port 51844"'),
+            ('ok "<Client 3>"', 'ok "<Client 12>"'),
+            ('ok "at 0x7f3a12bc"', 'ok "at 0x55aa00ff"'),
+            ('ok "2026-12-01T03:30:46+0000 up"', 'ok "2026-12-02 11:02:03,5 up"'),
+            ('ok "loop_begin_97"', 'ok "loop_begin_98_2"'),
+        ):
+            self.assertEqual(masked(one), masked(other))
+        for text in ('ok 40213', 'ok "card-6 312"', 'ok "order 7: 2 lines"', 'fail ValueError "dan has 5, not 9"', 'ok "1.2.3"', 'ok "loop"'):
+            self.assertEqual(masked(text), text)
 
 
 if __name__ == "__main__":

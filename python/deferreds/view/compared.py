@@ -3,10 +3,14 @@
 from __future__ import annotations
 
 import re
+from collections import Counter
+from itertools import zip_longest
 from typing import Dict, Iterator, List, NamedTuple, Optional, Tuple
 
+from .compared_lines import DifferingSite, by_function, differing_sites, masked
 from .records import By, Record, Row
 from .run import Run
+from .sites import Site
 from .sizes import several
 
 #: a Deferred of either run: its name, and which one of that name it is. Its number is another where one more was made before it
@@ -17,6 +21,10 @@ Form = Tuple[object, ...]
 
 #: what `./record` adds to the name of a function: the line of the program, and which one of that line it is
 _OF_LINE = re.compile(r"_\d+(?:_\d+)?$")
+
+
+#: up to how many outcomes of a line of the program are compared in their order
+_MOST_IN_ORDER = 4
 
 
 class Differing(NamedTuple):
@@ -33,7 +41,11 @@ class Side:
     def __init__(self, run: Run, is_loose: bool) -> None:
         self.run = run
         self._is_loose = is_loose
-        self._locks = {f'ok "{lock.name}"' for lock in run.fold.world.locks.all}
+        things = [*run.fold.world.locks.all, *run.fold.world.loops.all]
+        self._things = {f'ok "{thing.name}"' for thing in things}
+        #: of a recording, by the number of a Deferred, its function and which line of that function made it
+        lines = by_function(run) if is_loose else {}
+        self._lines = {record.number: f"{function} {place}" for (function, place), site in lines.items() for record in site.records}
         #: the rows that are compared: loosely, without those in which time goes on, which may be one more where a clock is read later
         self._rows = [row for row in run.fold.rows if not (is_loose and row.entry.word == "advance")]
         self.forms: List[Form] = [self._form(row) for row in self._rows]
@@ -41,7 +53,7 @@ class Side:
         self._keys: Dict[int, Key] = {}
         counted: Dict[str, int] = {}
         for record in run.fold.records.values():
-            name = self._name(record.name)
+            name = self._lines.get(record.number) or self._name(record.name)
             counted[name] = counted.get(name, 0) + 1
             key = name, counted[name]
             self.records[key] = record
@@ -64,13 +76,27 @@ class Side:
         return entry.word, entry.what, entry.deferred, entry.other, self._name(entry.name), number, tail
 
     def _value(self, text: str) -> str:
-        """An outcome. It may be the name of a lock: a Deferred that gets a token has it as its value."""
-        return f'{self._name(text[:-1])}"' if text in self._locks else text
+        """An outcome. It may be the name of a lock or a loop: a Deferred that gets a token, or of a loop that has ended, has it as its value."""
+        if text in self._things:
+            return f'{self._name(text[:-1])}"'
+        return masked(text) if self._is_loose else text
 
     def lacks(self, row: Row) -> str:
         """What the line of a firing without effect doesn't say: with what it fires, where its event tells that."""
         is_told = row.entry.word in ("refuse", "swallow") and row.actor.by is By.EVENT
         return self.run.script.fired_with(row.actor.number) if is_told else ""
+
+    def site(self, record: Record) -> Optional[Site]:
+        """The line of the program that made a Deferred, if that is known."""
+        return self.run.inferred.sites.of.get(record.number)
+
+    def end(self, record: Record) -> str:
+        """The outcome of a Deferred, without whom it waits for."""
+        return self.outcome(record)[0]
+
+    def values(self, site: Site) -> List[str]:
+        """The outcomes of the Deferreds of a line, in one order."""
+        return sorted(map(self.end, site.records))
 
     def outcome(self, record: Record) -> Tuple[str, Optional[Key]]:
         """The outcome, and the Deferred that it waits for: by its number it can't be compared."""
@@ -90,7 +116,9 @@ class Compared:
         common = _common(self.first.forms, self.second.forms)
         #: of each run, how many lines come before the first that differs
         self.common = self.first.place_of(common), self.second.place_of(common)
-        self.outcomes: List[Differing] = list(self._outcomes())
+        #: of two recordings, the lines of the programs whose Deferreds ended otherwise
+        self.sites: List[DifferingSite] = differing_sites(first, second) if self.is_loose else []
+        self.outcomes: List[Differing] = self._by_line() if self.is_loose else list(self._outcomes())
 
     @property
     def is_same(self) -> bool:
@@ -105,11 +133,39 @@ class Compared:
         for key, record in self.first.records.items():
             other = self.second.records.get(key)
             if other is None or self.first.outcome(record) != self.second.outcome(other):
-                names = dict.fromkeys((record.name, other.name if other is not None else record.name))
-                yield Differing(" / ".join(names), record, other)
+                yield Differing(_names(record, other), record, other)
         for key, record in self.second.records.items():
             if key not in self.first.records:
                 yield Differing(record.name, None, record)
+
+    def _by_line(self) -> List[Differing]:
+        """The outcomes that differ, by the line that made these Deferreds; without lines whose Deferreds have the same ones in another order."""
+        groups: Dict[Tuple[str, int], List[Differing]] = {}
+        for one in self._outcomes():
+            if not self._has_same_values(one):
+                groups.setdefault(self._place(one), []).append(one)
+        return [one for place in sorted(groups) for one in self._but_for_order(groups[place])]
+
+    def _but_for_order(self, differing: List[Differing]) -> List[Differing]:
+        """Outcomes of one line that differ; if they are many, without those that both runs have, one for one, in another order."""
+        if len(differing) <= _MOST_IN_ORDER:
+            return differing
+        ones = [one.first for one in differing if one.first is not None]
+        others = [one.second for one in differing if one.second is not None]
+        common = Counter(map(self.first.end, ones)) & Counter(map(self.second.end, others))
+        pairs = zip_longest(_without(ones, self.first, common), _without(others, self.second, common))
+        return [Differing(_names(first, second), first, second) for first, second in pairs]
+
+    def _has_same_values(self, one: Differing) -> bool:
+        if one.first is None or one.second is None:
+            return False
+        first, second = self.first.site(one.first), self.second.site(one.second)
+        return first is not None and second is not None and self.first.values(first) == self.second.values(second)
+
+    def _place(self, one: Differing) -> Tuple[str, int]:
+        """The line that made a Deferred; one that isn't known comes last."""
+        site = self.first.site(one.first) if one.first is not None else self.second.site(one.second) if one.second is not None else None
+        return site.place if site is not None else ("\U0010ffff", 0)
 
     @property
     def verdict(self) -> str:
@@ -118,8 +174,9 @@ class Compared:
         if self.is_same:
             return f"the same: {lines}, and all outcomes"
         where = f"all {lines} are the same" if self._has_same_lines else self._where
-        differ = several(len(self.outcomes), "outcome differs", "outcomes differ")
-        return f"{where}; {differ if self.outcomes else 'no outcome differs'}"
+        differ = several(len(self.outcomes), "outcome differs", "outcomes differ") if self.outcomes else "no outcome differs"
+        lines = several(len(self.sites), "line of the program", "lines of the program")
+        return f"{where}; {differ}" + (f"; the Deferreds of {lines} ended otherwise" if self.sites else "")
 
     @property
     def _where(self) -> str:
@@ -133,7 +190,25 @@ class Compared:
         """What isn't compared, or an empty text."""
         if not self.is_loose:
             return ""
-        return "Both were recorded, so times, and the program's line numbers in names, aren't compared."
+        return "Both were recorded, so times, addresses, ports, numbers of objects and the program's line numbers in names aren't compared."
+
+
+def _names(first: Optional[Record], second: Optional[Record]) -> str:
+    """The name of a Deferred of either run, or both if they differ."""
+    return " / ".join(dict.fromkeys(record.name for record in (first, second) if record is not None))
+
+
+def _without(records: List[Record], side: Side, common: Counter[str]) -> List[Record]:
+    """The records but for so many of each outcome."""
+    left = Counter(common)
+    found: List[Record] = []
+    for record in records:
+        end = side.end(record)
+        if left[end] > 0:
+            left[end] -= 1
+        else:
+            found.append(record)
+    return found
 
 
 def _common(first: List[Form], second: List[Form]) -> int:

@@ -2,7 +2,7 @@
 
 from __future__ import annotations
 
-from typing import Iterator, List, Optional
+from typing import Iterator, List, Optional, Tuple
 
 from .compared import Compared, Differing, Side
 from .document import asset, policy_hash
@@ -11,12 +11,15 @@ from .markup import isolated
 from .records import Record, Row, ended
 from .findings import Severity
 from .shapes import CLASSES, SIGNS
+from .sites import Site
 from .sizes import several
+from .terminal import Terminal
 from .texts import Html, clipped, escaped, joined, visible
+from .units import said_of
 
 #: how many of the common lines stand above the first that differs, and how many lines and outcomes are shown at most
 _BEFORE, MOST_LINES, MOST_OUTCOMES = 8, 2_000, 200
-_MOST_LINE, _MOST_VALUE, _DEEPEST = 200, 200, 12
+_MOST_LINE, _MOST_VALUE, _MOST_SAID, _MOST_CAUSES, _MOST_ODD, _DEEPEST = 200, 200, 400, 5, 5, 12
 
 
 class ComparedPage:
@@ -49,8 +52,31 @@ class ComparedPage:
         yield from map(self._about, self._sides)
         if self._compared.apart:
             yield Html(f"<p class=facts>{escaped(self._compared.apart)}</p>")
+        yield from self._causes()
+        yield from self._sites()
         yield from self._outcomes()
         yield from self._lines()
+
+    def _causes(self) -> Iterator[Html]:
+        """What the reports of the two have to look at, and as likely causes."""
+        found = [(side, causes_of(side)) for side in self._sides]
+        if not any(causes for _, causes in found):
+            return
+        yield Html("<h2>What the reports say</h2><table class=report>")
+        for side, causes in found:
+            for kind, said in causes or [("", "nothing to look at, and no likely cause")]:
+                yield Html(f"<tr><td>{escaped(kind)}</td><td>{isolated(side.run.title)}</td><td>{isolated(clipped(said, _MOST_SAID))}</td></tr>")
+        yield Html("</table>")
+
+    def _sites(self) -> Iterator[Html]:
+        if not self._compared.sites:
+            return
+        heads = "".join(f"<th>{isolated(side.run.title)}</th>" for side in self._sides)
+        yield Html(f"<h2>Lines of the program whose Deferreds ended otherwise</h2><table class=both><tr><th>Function</th>{heads}</tr>")
+        for one in self._compared.sites[:MOST_OUTCOMES]:
+            cells = joined(_site(side, site) for side, site in zip(self._sides, (one.first, one.second)))
+            yield Html(f'<tr><td class="mono name">{escaped(one.function)}</td>{cells}</tr>')
+        yield Html("</table>")
 
     def _look(self) -> str:
         return "clean" if self._compared.is_same else "left"
@@ -108,6 +134,28 @@ class ComparedPage:
         return Html(f'<td class="line{fails}">{_cell(side, rows[place])}</td>')
 
 
+def _site(side: Side, site: Optional[Site]) -> Html:
+    return Html(f"<td>{isolated(site_said(side, site))}</td>" if site is not None else "<td class=facts>makes none</td>")
+
+
+def site_said(side: Side, site: Optional[Site]) -> str:
+    """What is said of a line of a program."""
+    if site is None:
+        return "makes none"
+    longest = said_of(site.longest, side.run.tick)
+    odd = f", odd: {' '.join(f'#{number}' for number in site.odd[:_MOST_ODD])}" if site.odd else ""
+    return f"{site.place.text}: {site.said}, longest {longest}{odd}"
+
+
+def causes_of(side: Side) -> List[Tuple[str, str]]:
+    """The rows of a recording's report that are to be looked at, or likely causes, or notes: the kind of each, and what it says."""
+    if not side.run.is_recorded:
+        return []
+    terminal = Terminal(side.run, False)
+    findings = [one for one in side.run.report.findings if one.severity is not Severity.LEFT]
+    return [(one.kind.value, "; ".join(map(terminal.said, [one.said, *one.details[:2]]))) for one in findings[:_MOST_CAUSES]]
+
+
 def _cell(side: Side, row: Row) -> Html:
     """A line with its number, indented as deep as it lies, and what it lacks."""
     line, entry = clipped(row.entry.line, _MOST_LINE), row.entry
@@ -140,6 +188,12 @@ def text_lines(compared: Compared) -> Iterator[str]:
     yield compared.verdict
     if compared.apart:
         yield compared.apart
+    for sign, side in sides:
+        for kind, said in causes_of(side):
+            yield visible(clipped(f"{sign} {kind}: {said}", _MOST_SAID))
+    for pair in compared.sites:
+        for (sign, side), site in zip(sides, (pair.first, pair.second)):
+            yield visible(f"{sign} {pair.function}: {site_said(side, site)}")
     for one in compared.outcomes:
         for sign, record in (("-", one.first), ("+", one.second)):
             end = f"#{record.number} {clipped(record.end, _MOST_VALUE)}" if record is not None else "isn't made"

@@ -120,7 +120,7 @@ def _await(
     """Tells that the body that runs awaits, and adds the pair; has `came` hold something when the result has come."""
     frame = watcher.frame
     awaited = watcher.begin_await(frame, record)
-    watcher.locate_await(awaited, _going_on[-1])
+    watcher.locate_await(awaited, _going_on[-1] if _going_on else None)
     if frame.record is not None:
         watcher.tell("await ", frame.record, " ", record)
     watcher.tell("add ", record)
