@@ -25,7 +25,7 @@ FILE = Path(SHELL)
 #: the modules, each after those that it uses
 MODULES = (
     "sources units sizes places phrases texts lines records nesting causes world fold sections batches left facts durations hanging "
-    "scripts findings bodies tokens sites overtaken after_cancel row_places inferred report stories run events layout folding markup shapes ruler chart windows axis outcomes page"
+    "scripts findings bodies tokens crossed sites overtaken after_cancel row_places inferred report stories run events layout folding markup shapes ruler chart windows axis outcomes page"
 ).split()
 
 #: what is left out, since the browser has it otherwise

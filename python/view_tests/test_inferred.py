@@ -120,6 +120,46 @@ class TokensThatAreHeld(unittest.TestCase):
         self.assertIn("held for #1·run since line 4, which waits for #2·work", found[1])
 
 
+def _crossing(*orders: str) -> List[str]:
+    """The journal of bodies each of which takes the lock of its first letter, and then asks for that of its second one."""
+    lines = [f"lock {name}" for name in sorted(set("".join(orders)))]
+    for number, (first, _) in enumerate(orders):
+        body, token, answer = 10 * number, 10 * number + 1, 10 * number + 2
+        lines += [f"new #{body} body", f"new #{token} t", f"acquire {first} #{token}", f'fire #{token} ok "{first}"']
+        lines += [f"new #{answer} d", f"await #{body} #{answer}", f"add #{answer}"]
+    for number, (_, second) in enumerate(orders):
+        body, answer, token = 10 * number, 10 * number + 2, 10 * number + 3
+        lines += [f"fire #{answer} ok 1", f"run #{answer}", f"new #{token} t", f"acquire {second} #{token}"]
+        lines += [f"await #{body} #{token}", f"add #{token}", f"set #{answer} ok null"]
+    return lines
+
+
+class CrossedLocks(unittest.TestCase):
+    """Bodies that hold locks and await each other's."""
+
+    def kinds(self, *orders: str) -> List[str]:
+        return [finding.kind.value for finding in run_of(_crossing(*orders)).report.findings]
+
+    def test_a_circle_is_one_row_with_who_took_what(self) -> None:
+        self.assertEqual(self.kinds("lm", "ml"), ["circle"])
+        row = report_of(run_of(_crossing("lm", "ml")))[0]
+        self.assertIn("circle l → m → l: each is held by a body that awaits the next (line 5) | #0·body took l, and awaits m | #10·body took m, and awaits l", row)
+
+    def test_of_three_as_of_two(self) -> None:
+        self.assertEqual(self.kinds("lm", "mn", "nl"), ["circle"])
+        self.assertIn("circle l → m → n → l", report_of(run_of(_crossing("lm", "mn", "nl")))[0])
+
+    def test_one_who_waits_for_a_lock_of_the_circle_isn_t_in_it(self) -> None:
+        found = report_of(run_of(_crossing("lm", "ml", "kl")))
+        self.assertEqual([one.split()[0] for one in found], ["circle", "token"])
+        self.assertIn("held by #20·body", found[1])
+
+    def test_not_if_another_may_release_a_token(self) -> None:
+        lines = [line for line in _crossing("lm", "ml") if line != "lock m"]
+        run = run_of(["semaphore m 2", "new #40 other", "acquire m #40", 'fire #40 ok "m"', *lines])
+        self.assertNotIn(Kind.CIRCLE, [finding.kind for finding in run.report.findings])
+
+
 def _answers(count: int, odd: List[str]) -> List[str]:
     """The journal of so many Deferreds of a line, each of which is fired a tick after it was made; and of one more."""
     lines: List[str] = []

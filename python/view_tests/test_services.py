@@ -61,6 +61,11 @@ _CAUSES = {
         {"stock_levels.py:33": "threads.deferToThread(self.store.read, item)"},
     ),
     "mailer": Cause(Kind.GETTER, ["1 waits for a value", "the inline body of #2·work_26"], {"mailer.py:35": "self.letters.get()"}),
+    "transfers": Cause(
+        Kind.CIRCLE,
+        ["each is held by a body that awaits the next", "#6·transfer_32 took lock_transfer_15", "#9·transfer_32_2 took lock_transfer_18"],
+        {"transfers.py:15": "yield source.lock.acquire()", "transfers.py:18": "yield target.lock.acquire()"},
+    ),
     "feeds": Cause(
         Kind.WENT_ON,
         ["read_58_4", "went on after it was cancelled", 'failed with RemoteError "stocks"', "a guess"],
@@ -68,7 +73,7 @@ _CAUSES = {
     ),
 }
 
-_MENDED = ("ledger", "payments", "warehouse", "stock_levels", "mailer")
+_MENDED = ("ledger", "payments", "warehouse", "stock_levels", "mailer", "transfers")
 
 
 def run_of_service(name: str) -> Run:

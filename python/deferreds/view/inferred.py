@@ -10,6 +10,7 @@ from typing import Dict, List, Optional, Sequence, Set, Tuple
 from .after_cancel import WentOn, went_on
 from .bodies import Bodies
 from .causes import in_whom
+from .crossed import Link, crossed
 from .durations import Durations
 from .findings import Finding, Kind, Severity, details_of
 from .fold import Fold
@@ -42,6 +43,7 @@ class Inferred:
         #: the lines of the program that made Deferreds
         self.sites = Sites(fold, places, durations, tick)
         self._known_bodies: Optional[Bodies] = None
+        self._known_holders: Dict[int, Holders] = {}
         self._asked: Dict[int, int] = {}
         #: the bodies that awaited a Deferred last, by its number; and what each body made at each line
         self._awaiting: Dict[int, List[int]] = {}
@@ -72,10 +74,34 @@ class Inferred:
 
     # tokens
 
+    def _holders(self, lock: Lock) -> Holders:
+        """Who holds the tokens of a lock at the end."""
+        if lock.number not in self._known_holders:
+            bodies = self._bodies
+            self._known_holders[lock.number] = Holders(self._fold, bodies, self._asked, lock)
+        return self._known_holders[lock.number]
+
+    def crossed(self, left: Sequence[LeftTokens]) -> List[List[Link]]:
+        """The circles of locks whose holders await each other's tokens, as far as it is known who holds them."""
+        locks = [lock for lock in (self._fold.world.locks.at(one.number) for one in left if one.waiting) if lock is not None]
+        sure = [lock for lock in locks if self._holders(lock).is_sure]
+        return crossed(self._fold, {lock.number: self._holders(lock).held for lock in sure})
+
+    def circle(self, ring: Sequence[Link], waiting: Sequence[Phrase]) -> Finding:
+        """Locks whose holders await each other's tokens, with who else waits for them."""
+        locks = [self._fold.world.locks.all[link.lock].name for link in ring]
+        said = words(f"{' → '.join([*locks, locks[0]])}: each is held by a body that awaits the next")
+        details: List[Phrase] = []
+        for link in ring:
+            body = self._fold.records[link.held.body or 0]
+            name, awaited = self._fold.world.locks.all[link.lock].name, self._fold.world.locks.all[link.awaited].name
+            took = words(OfDeferred(body.number), f" took {name}", *self._at(link.held.deferred))
+            details.append((*took, f", and awaits {awaited}", *self.awaits_at(body)))
+        return Finding(Severity.BAD, Kind.CIRCLE, said, details_of(details, waiting), ring[0].held.row)
+
     def token(self, one: LeftTokens, lock: Lock, waiting: Sequence[Phrase]) -> Finding:
         """The tokens of a lock that are held at the end, with who waits for one."""
-        bodies = self._bodies
-        holders = Holders(self._fold, bodies, self._asked, lock)
+        holders = self._holders(lock)
         first = next(iter(holders.held), None)
         guess: List[Phrase] = [] if holders.is_sure else [("which of its tokens were released is a guess",)]
         given = sum(deferred >= 0 for deferred, _ in lock.moves)

@@ -47,6 +47,12 @@ def _guess(shelf: Shelf[T], name: str) -> List[Phrase]:
     return [(f"the name {name} was bound more than once: which of them a line means is a guess",)]
 
 
+def _is_of(phrase: Phrase, numbers: Sequence[Optional[int]]) -> bool:
+    """Whether a phrase is about one of these Deferreds first."""
+    first = next((part.number for part in phrase if isinstance(part, OfDeferred)), None)
+    return first is not None and first in numbers
+
+
 class Report:
     """What is left of a run."""
 
@@ -69,6 +75,8 @@ class Report:
         self._script = script
         self._hanging = Hanging(fold, left)
         self._told: Set[End] = set()
+        #: the numbers of locks whose holders await each other's
+        self._crossed: Set[int] = set()
         self._timers = {(timer.deferred, timer.due): timer.row for timer in fold.world.timers}
         self._failed = {one.number for one in left if isinstance(one, LeftFailure)}
         found = [*self._bad(finish), *self._open(), *self._notes()]
@@ -117,6 +125,11 @@ class Report:
         for end in list(self._hanging.on):
             if isinstance(end, Circle):
                 yield self._circle(end)
+        for ring in self._inferred.crossed(list(self._of(LeftTokens))):
+            self._crossed.update(link.lock for link in ring)
+            bodies = [link.held.body for link in ring]
+            waiting = [phrase for link in ring for phrase in self._held(Root(At.LOCK, link.lock)) if not _is_of(phrase, bodies)]
+            yield self._inferred.circle(ring, waiting)
 
     def _stopped(self, finish: Finish) -> Finding:
         """The limit was reached, or the text was cut off; the sides that still ran are its details."""
@@ -302,7 +315,7 @@ class Report:
 
     def _tokens(self, one: LeftTokens) -> Optional[Finding]:
         lock = self._fold.world.locks.at(one.number)
-        if lock is None:
+        if lock is None or one.number in self._crossed:
             return None
         waiting = self._held(Root(At.LOCK, one.number))
         found = self._inferred.token(one, lock, waiting)
