@@ -14,6 +14,7 @@ from deferreds.view.trace import EVENTS, FIRST, Trace
 
 from . import samples
 from .stand_in import told
+from .test_services import run_of_service
 
 Json = Dict[str, Any]
 
@@ -190,6 +191,34 @@ class Content(unittest.TestCase):
 
     def test_no_unseen_character_is_in_it(self) -> None:
         self.assertEqual(set(unseen().findall(Trace(samples.hostile()).text())), {"\n"})
+
+
+class OfARecording(unittest.TestCase):
+    """The trace of a recorded service."""
+
+    def test_times_are_those_of_the_run(self) -> None:
+        run = run_of_service("warehouse")
+        trace = Trace(run)
+        self.assertEqual(list(broken(trace.text())), [])
+        lost = next(one for one in trace.events() if one["ph"] == "X" and one["name"] == "unfired" and one["tid"] == FIRST + 114)
+        took = run.durations.of(run.fold.records[114]).unfired
+        self.assertLess(abs(lost["dur"] - took), len(run.fold.rows))  # (a tick is a microsecond there)
+        self.assertIn('"tick": "as it was in the run"', trace.text())
+
+    def test_a_millisecond_is_one(self) -> None:
+        run = run_of_journal("new #0 a\nadvance 5\nfire #0 ok 1\n#0 a ok 1\n", "t")
+        run.tick = "1 ms"
+        times = [(one["name"], one["ts"], one["dur"]) for one in Trace(run).events() if one["ph"] == "X" and one["tid"] == FIRST]
+        self.assertEqual(times, [("unfired", 0, 5001), ("ok 1", 5001, 1)])
+
+    def test_tracks_of_one_line_stand_beside_each_other_and_slices_have_their_lines(self) -> None:
+        events = Trace(run_of_service("ledger")).events()
+        names = [one["args"]["name"] for one in events if one["name"] == "thread_name"]
+        self.assertEqual([name.split()[0] for name in names[1:17]], ["wire.py:33"] * 16)
+        order = [one["args"]["sort_index"] for one in events if one["name"] == "thread_sort_index"]
+        self.assertEqual(order, list(range(1, len(names) + 1)))
+        places = {one["args"].get("place") for one in events if one["ph"] == "X" and one["tid"] == FIRST + 71}
+        self.assertIn("/srv/shop/wire.py:33", places)
 
 
 if __name__ == "__main__":

@@ -2,7 +2,8 @@
 for who fires whom (python/NOTES.md, "A trace").
 
 Many lines stand at one time of the virtual clock, and a slice of no length isn't seen. So each line takes a microsecond,
-and a tick is longer than all lines of one time: a millisecond, or the next power of ten that is.
+and a tick is longer than all lines of one time: a millisecond, or the next power of ten that is. The times of a recorded run are
+those of the run; only lines of one time stand a microsecond after each other, and what follows no earlier than these.
 """
 
 from __future__ import annotations
@@ -14,6 +15,7 @@ from .nesting import LAST_POSTS
 from .records import Arrow, ArrowKind, Look, Record, Row, State
 from .run import Run
 from .texts import clipped, visible
+from .units import seconds_of
 
 Json = Dict[str, Any]
 
@@ -38,7 +40,9 @@ _FLOWS = {
 class Clock:
     """The microsecond of each line."""
 
-    def __init__(self, rows: List[Row]) -> None:
+    def __init__(self, rows: List[Row], tick: str = "") -> None:
+        #: how many microseconds a tick is, where times are those of a recorded run
+        self.real = seconds_of(1, tick) * 1_000_000
         times: Dict[int, int] = {}
         for row in rows:
             times[row.time] = times.get(row.time, 0) + 1
@@ -49,9 +53,17 @@ class Clock:
         self.is_even = (max(times, default=0) + 1) * self.tick <= _LATEST
         starts = {time: (time if self.is_even else place) * self.tick for place, time in enumerate(sorted(times))}
         self._at: List[int] = []
+        is_real = self.real > 0 and max(times, default=0) * self.real <= _LATEST
+        if is_real:
+            self.is_even = True
+            starts = {time: round(time * self.real) for time in times}
         for row in rows:
+            earliest = self._at[-1] + 1 if is_real and self._at else 0
+            starts[row.time] = max(starts[row.time], earliest)
             self._at.append(starts[row.time])
             starts[row.time] += 1
+        #: how long a tick is in it, in words
+        self.said = "as it was in the run" if is_real else f"{self.tick} us"
 
     def at(self, row: int) -> int:
         """When a line stands; after the last one, when the run is over."""
@@ -66,12 +78,12 @@ class Trace:
     def __init__(self, run: Run) -> None:
         self._run = run
         self._rows = run.fold.rows
-        self.clock = Clock(self._rows)
+        self.clock = Clock(self._rows, run.tick)
         self._flows = 0
 
     def text(self) -> str:
         """The whole file: an object with an event a line."""
-        about = {"title": visible(self._run.title), "run": self._run.counts, "tick": f"{self.clock.tick} us"}
+        about = {"title": visible(self._run.title), "run": self._run.counts, "tick": self.clock.said}
         if not self.clock.is_even:
             about["times"] = "too long to stand in proportion: each comes a tick after the one before"
         events = ",\n".join(json.dumps(event, ensure_ascii=False, separators=(",", ":")) for event in self.events())
@@ -89,11 +101,21 @@ class Trace:
 
     def _names(self) -> Iterator[Json]:
         yield self._named("process_name", EVENTS, {"name": visible(clipped(self._run.title, _MOST_NAME))})
-        tracks = [(EVENTS, "events and calls")]
-        tracks += [(FIRST + one.number, f"#{one.number} {one.name}".rstrip()) for one in self._run.fold.records.values()]
-        for track, name in tracks:
+        tracks = [(EVENTS, "events and calls"), *((FIRST + one.number, self._track(one)) for one in self._in_order())]
+        for place, (track, name) in enumerate(tracks, 1):
             yield self._named("thread_name", track, {"name": visible(name)})
-            yield self._named("thread_sort_index", track, {"sort_index": track})
+            yield self._named("thread_sort_index", track, {"sort_index": place})
+
+    def _in_order(self) -> List[Record]:
+        """The Deferreds in the order of their tracks: those of one line of the program beside each other, where that is known."""
+        sites = self._run.inferred.sites
+        of_lines = [record for site in sites.all for record in site.records]
+        return [*of_lines, *(record for record in self._run.fold.records.values() if record.number not in sites.of)]
+
+    def _track(self, record: Record) -> str:
+        site = self._run.inferred.sites.of.get(record.number)
+        where = f"{site.place.text} " if site is not None else ""
+        return f"{where}#{record.number} {record.name}".rstrip()
 
     @staticmethod
     def _named(what: str, track: int, arguments: Json) -> Json:
@@ -103,6 +125,9 @@ class Trace:
         """A slice from a line up to a microsecond, with the line in full."""
         start = self.clock.at(row)
         arguments = {"line": row + 1, "text": visible(clipped(self._rows[row].entry.line, _MOST_TEXT)), **more}
+        place = self._run.row_places.of(self._rows[row])
+        if place is not None:
+            arguments["place"] = visible(place.whole)
         return {
             "ph": "X", "pid": PROCESS, "tid": track, "cat": kind, "name": visible(clipped(name, _MOST_NAME)),
             "ts": start, "dur": end - start, "args": arguments,
