@@ -7,9 +7,9 @@ import unittest
 from typing import List, Optional, Tuple
 
 from deferreds.view import texts
-from deferreds.view.compared import Compared
+from deferreds.view.compared import Aligned, Compared
 from deferreds.view.compared_lines import masked
-from deferreds.view.compared_forms import MOST_LINES, MOST_OUTCOMES, ComparedPage, text_lines
+from deferreds.view.compared_forms import MOST_LINES, MOST_OUTCOMES, ComparedPage, shortened_runs, text_lines
 from deferreds.view.places import Place, Places
 from deferreds.view.run import Run, run_of_journal
 from deferreds.view.scripts import Script
@@ -254,6 +254,33 @@ class ByLine(unittest.TestCase):
     def test_each_outcome_of_the_ledger_that_differs_is_a_consequence(self) -> None:
         for one in self.both("ledger").outcomes:
             self.assertTrue(one.first is None or one.first.end == "unfired", one.name)
+
+    def test_lines_stand_beside_each_other_again_after_a_difference(self) -> None:
+        def run(*more: str) -> Run:
+            lines = ["new #0 get_7", "note 1", *more, "note 2", "add #0", "note 3"]
+            return recorded(*lines, "#0 get_7 unfired")
+
+        compared = Compared(run(), run('note "extra"', "lock l"))
+        pairs = [(one.first and one.first.entry.line, one.second and one.second.entry.line, one.is_same) for one in compared.aligned(100)]
+        same = [(line, line, True) for line in ("note 2", "add #0", "note 3")]
+        self.assertEqual(pairs, [(None, 'note "extra"', False), (None, "lock l", False), *same])
+        lines = list(text_lines(compared))
+        self.assertEqual([line[0] for line in lines[lines.index("") + 3 :]], ["+", "+", " ", " ", " "])
+
+    def test_lines_align_also_if_other_deferreds_were_made_between(self) -> None:
+        compared = self.both("ledger")
+        pairs = compared.aligned(10_000)
+        same = [one for one in pairs if one.is_same and one.first and one.second and one.first.entry.deferred != one.second.entry.deferred]
+        self.assertGreater(len(same), 100)
+        for one in same:
+            assert one.first is not None and one.second is not None
+            self.assertEqual(one.first.entry.word, one.second.entry.word)
+
+    def test_of_a_long_run_of_the_same_lines_the_midst_is_left_out(self) -> None:
+        row = recorded("new #0 d", "#0 d unfired").fold.rows[0]
+        same, other = Aligned(row, row, True), Aligned(row, None, False)
+        self.assertEqual(shortened_runs([other, *[same] * 20, other]), [other, same, same, same, 14, same, same, same, other])
+        self.assertEqual(shortened_runs([same] * 7), [same] * 7)
 
     def test_lines_are_known_by_their_functions(self) -> None:
         def run(line: int, *ends: str) -> Run:

@@ -4,6 +4,7 @@ from __future__ import annotations
 
 import re
 from collections import Counter
+from difflib import SequenceMatcher
 from itertools import zip_longest
 from typing import Dict, Iterator, List, NamedTuple, Optional, Tuple
 
@@ -35,6 +36,14 @@ class Differing(NamedTuple):
     second: Optional[Record]
 
 
+class Aligned(NamedTuple):
+    """Rows that stand beside each other, and whether they are the same; None where only one run has a row."""
+
+    first: Optional[Row]
+    second: Optional[Row]
+    is_same: bool
+
+
 class Side:
     """One of the two runs, by the keys of its Deferreds; loosely, apart from times and the lines of a program that was recorded."""
 
@@ -58,6 +67,18 @@ class Side:
             key = name, counted[name]
             self.records[key] = record
             self._keys[record.number] = key
+
+    def form_in_its_line(self, row: Row) -> Form:
+        """The same, with the line of the program that made a Deferred in the place of its number: so lines of two runs are found again in which
+        other Deferreds were made between."""
+        entry, form = row.entry, self._form(row)
+        if not self._is_loose or not entry.word:
+            return form
+        return (*form[:2], self._lines.get(entry.deferred, ""), self._lines.get(entry.other, ""), *form[4:])
+
+    def rows_after(self, common: int) -> List[Row]:
+        """The rows after so many, as far as they are compared."""
+        return [row for row in self._rows if row.place >= common]
 
     def place_of(self, number: int) -> int:
         """The place of the row that is compared as this one; of the end, where there are no more."""
@@ -119,6 +140,17 @@ class Compared:
         #: of two recordings, the lines of the programs whose Deferreds ended otherwise
         self.sites: List[DifferingSite] = differing_sites(first, second) if self.is_loose else []
         self.outcomes: List[Differing] = self._by_line() if self.is_loose else list(self._outcomes())
+
+    def aligned(self, most: int) -> List[Aligned]:
+        """The rows after the common ones, up to so many of each run, where the same ones stand beside each other again."""
+        sides = (self.first, self.second)
+        ones, others = (side.rows_after(common)[:most] for side, common in zip(sides, self.common))
+        forms = [[side.form_in_its_line(row) for row in rows] for side, rows in zip(sides, (ones, others))]
+        found: List[Aligned] = []
+        for tag, start, stop, begin, end in SequenceMatcher(None, forms[0], forms[1]).get_opcodes():
+            pairs = zip_longest(ones[start:stop], others[begin:end])
+            found += [Aligned(first, second, tag == "equal") for first, second in pairs]
+        return found
 
     @property
     def is_same(self) -> bool:

@@ -2,9 +2,10 @@
 
 from __future__ import annotations
 
-from typing import Iterator, List, Optional, Tuple
+from itertools import groupby
+from typing import Iterator, List, Optional, Tuple, Union
 
-from .compared import Compared, Differing, Side
+from .compared import Aligned, Compared, Differing, Side
 from .document import asset, policy_hash
 from .lines import WORDS
 from .markup import isolated
@@ -18,7 +19,7 @@ from .texts import Html, clipped, escaped, joined, visible
 from .units import said_of
 
 #: how many of the common lines stand above the first that differs, and how many lines and outcomes are shown at most
-_BEFORE, MOST_LINES, MOST_OUTCOMES = 8, 2_000, 200
+_BEFORE, _AROUND, MOST_LINES, MOST_OUTCOMES = 8, 3, 2_000, 200
 _MOST_LINE, _MOST_VALUE, _MOST_SAID, _MOST_CAUSES, _MOST_ODD, _DEEPEST = 200, 200, 400, 5, 5, 12
 
 
@@ -119,19 +120,38 @@ class ComparedPage:
         yield Html(f"<table class=both><tr>{heads}</tr>")
         for row in same[-_BEFORE:]:
             yield Html(f"<tr class=facts><td colspan=2>{_cell(sides[0], row)}</td></tr>")
-        for place in range(min(max(map(len, rest)), self._most)):
-            yield Html(f"<tr>{''.join(self._line(side, one, place) for side, one in zip(sides, rest))}</tr>")
+        yield from map(self._pair, shortened_runs(self._compared.aligned(self._most)))
         yield Html("</table>")
         for side, one in zip(sides, rest):
             if len(one) > self._most:
                 yield Html(f"<p class=facts>{isolated(side.run.title)} has {len(one) - self._most} more lines</p>")
 
+    def _pair(self, pair: Union[Aligned, int]) -> Html:
+        """Rows that stand beside each other, or how many are left out since they are the same."""
+        if isinstance(pair, int):
+            return Html(f"<tr class=facts><td colspan=2>{several(pair, 'line is', 'lines are')} the same</td></tr>")
+        same = " class=facts" if pair.is_same else ""
+        return Html(f"<tr{same}>{self._line(self._sides[0], pair.first)}{self._line(self._sides[1], pair.second)}</tr>")
+
     @staticmethod
-    def _line(side: Side, rows: List[Row], place: int) -> Html:
-        if place >= len(rows):
+    def _line(side: Side, row: Optional[Row]) -> Html:
+        if row is None:
             return Html("<td></td>")
-        fails = " f" if rows[place].entry.fails else ""
-        return Html(f'<td class="line{fails}">{_cell(side, rows[place])}</td>')
+        fails = " f" if row.entry.fails else ""
+        return Html(f'<td class="line{fails}">{_cell(side, row)}</td>')
+
+
+def shortened_runs(aligned: List[Aligned]) -> List[Union[Aligned, int]]:
+    """The rows, with how many are left out in the midst of a long run of rows that are the same."""
+    found: List[Union[Aligned, int]] = []
+    for is_same, group in groupby(aligned, key=lambda one: one.is_same):
+        rows = list(group)
+        left_out = len(rows) - 2 * _AROUND
+        if is_same and left_out > 1:
+            found += [*rows[:_AROUND], left_out, *rows[-_AROUND:]]
+        else:
+            found += rows
+    return found
 
 
 def _site(side: Side, site: Optional[Site]) -> Html:
@@ -202,9 +222,23 @@ def text_lines(compared: Compared) -> Iterator[str]:
     same = compared.first.run.fold.rows[: compared.common[0]]
     for row in same[-_BEFORE:]:
         yield _text(" ", compared.first, row)
-    for (sign, side), common in zip(sides, compared.common):
-        for row in side.run.fold.rows[common:]:
-            yield _text(sign, side, row)
+    longest = max(len(side.run.fold.rows) for _, side in sides)
+    for is_same, group in groupby(compared.aligned(longest), key=lambda one: one.is_same):
+        rows = list(group)
+        if is_same:
+            yield from _same(sides[0][1], rows)
+            continue
+        for (sign, side), of_side in zip(sides, ([pair.first for pair in rows], [pair.second for pair in rows])):
+            yield from (_text(sign, side, row) for row in of_side if row is not None)
+
+
+def _same(side: Side, rows: List[Aligned]) -> Iterator[str]:
+    """Rows that are the same in both runs, as the first has them."""
+    for one in shortened_runs(rows):
+        if isinstance(one, int):
+            yield f"  {several(one, 'line is', 'lines are')} the same"
+        elif one.first is not None:
+            yield _text(" ", side, one.first)
 
 
 def _text(sign: str, side: Side, row: Row) -> str:
