@@ -466,5 +466,21 @@ class Scripts(unittest.TestCase):
             self.assertEqual(script.firing(["d"]), [])
 
 
+class OfExpectations(unittest.TestCase):
+    """A run that ended since a Deferred isn't as the script expects."""
+
+    def report(self, lines: Sequence[str], expected: object) -> str:
+        script = Script({"events": [["deferred", "d"], ["expect", "d", expected]]})
+        return report_of(run_of_journal(journal(*lines), "test", script, False, [0, len(lines) - 1]))[0]
+
+    def test_what_it_is_and_what_was_expected(self) -> None:
+        said = "unmet a Deferred isn't as the script expects, and the run ended there (line 2) | #0·d is unfired, and "
+        self.assertEqual(self.report(["new #0 d", "unmet #0 unfired"], ["ok", [1, "x"]]), said + 'ok [1,"x"] was expected')
+        self.assertEqual(self.report(["new #0 d", "unmet #0 unfired"], ["waiting"]), said + "waiting was expected")
+
+    def test_a_name_that_is_bound_to_none(self) -> None:
+        self.assertIn('no Deferred has the name "e", and unfired was expected', self.report(["new #0 d", 'unbound "e"'], ["unfired"]))
+
+
 if __name__ == "__main__":
     unittest.main()

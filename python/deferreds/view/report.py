@@ -146,11 +146,21 @@ class Report:
             details += self._held(Root(At.DEFERRED, number), [number])
         last = len(self._fold.rows) - 1
         kind, said = Kind.STOPPED, "the run stopped at the limit of its journal"
+        if finish is Finish.UNMET and last >= 0:
+            details += self._unmet(self._fold.rows[last])
         if finish is Finish.UNMET:
             kind, said = Kind.UNMET, "a Deferred isn't as the script expects, and the run ended there"
         if finish is Finish.CUT:
             kind, said = Kind.CUT, f"the text ends before {self._missing()}: how the run went on isn't known"
         return Finding(Severity.BAD, kind, (said,), tuple(details), last if last >= 0 else None)
+
+    def _unmet(self, row: Row) -> List[Phrase]:
+        """What was expected of a Deferred, and what it is; or that its name is bound to none."""
+        expected = self._script.expected(row.event) if row.event is not None else ""
+        what = words(", and ", OfScript(expected), " was expected") if expected else words()
+        if row.entry.word == "unbound":
+            return [("no Deferred has the name ", OfScript(row.entry.line[row.entry.head :]), *what)]
+        return [(OfDeferred(row.entry.deferred), " is ", OfScript(row.entry.line[row.entry.head :]), *what)]
 
     def _missing(self) -> str:
         """What a text that was cut off lacks: outcomes, or only what comes after them."""

@@ -77,6 +77,16 @@ class Script:
         except RecursionError:
             return ""
 
+    def expected(self, event: int) -> str:
+        """What an event expects of a Deferred, as `ok VALUE` or `unfired`; an empty text if it expects nothing."""
+        action = self.events[event] if 0 <= event < len(self.events) else None
+        if not isinstance(action, list) or len(action) < 3 or action[0] != "expect" or not isinstance(action[2], list):
+            return ""
+        try:
+            return " ".join([_text(part) if place == 0 else compact(part) for place, part in enumerate(action[2])])
+        except RecursionError:
+            return ""
+
     def actions(self) -> Iterator[Tuple[List[Any], str]]:
         """Each action, and whatever else is an array that begins with a text, with its place as a JSON Pointer."""
         for key in ("events", "callers"):
