@@ -58,6 +58,17 @@ class Command(unittest.TestCase):
         for words in (["--deferred", "2"], ["--text", "--deferred", "2", "--compare", _JOURNAL, _JOURNAL]):
             self.assertEqual(self.run_view(*words, *([] if "--compare" in words else ["--journal", _JOURNAL]))[0], 64)
 
+    def test_the_report_alone_as_a_text_or_as_json(self) -> None:
+        status, output, _ = self.run_view("--text", "--report", "--journal", _JOURNAL)
+        self.assertEqual((status, output), (0, "".join(self.run_view("--text", "--journal", _JOURNAL)[1].partition("\n\n")[0]) + "\n"))
+        status, output, _ = self.run_view("--as-json", "--journal", _JOURNAL)
+        told = json.loads(output)
+        self.assertEqual((status, output.count("\n"), told["version"], told["lines"], told["tick"]), (0, 1, 1, 122, None))
+        self.assertEqual((told["report"], told["made"]), ([], []))
+        for words in (["--report"], ["--as-json", "--report"], ["--text", "--report", "--deferred", "2"], ["--as-json", "--open"], ["--as-json", "--text"]):
+            self.assertEqual(self.run_view(*words, "--journal", _JOURNAL)[:2], (64, ""), words)
+        self.assertEqual(self.run_view("--as-json", "--compare", _JOURNAL, _JOURNAL)[:2], (64, ""))
+
     def test_a_page_is_written_where_it_is_wanted(self) -> None:
         wanted = self.folder / "below" / "page.html"
         status, output, errors = self.run_view("--journal", _JOURNAL, "-o", wanted)

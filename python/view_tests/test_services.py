@@ -19,11 +19,14 @@ from deferreds.view.pages import written_page
 from deferreds.view.run import Run
 from deferreds.view.terminal import Terminal
 
+from . import samples
 from .test_browser import InBrowser
 
 _RECORDINGS = Path(__file__).resolve().parent / "data" / "services"
 _PROGRAMS = Path(__file__).resolve().parents[1] / "data" / "services"
 _SCREEN = 900
+#: becomes true when a page that draws itself has drawn all
+_WHOLE = "new Promise(done => { (function look() { if ('whole' in document.body.dataset) return done(true); setTimeout(look, 20); })(); })"
 
 
 class Cause(NamedTuple):
@@ -214,6 +217,17 @@ class FirstScreen(InBrowser):
                 said = self.asked(f"{row}.innerText")
                 for place in cause.lines:
                     self.assertIn(place, said)
+
+    def test_a_page_that_draws_itself_shows_the_same(self) -> None:
+        shown = "Array.from(document.querySelectorAll('.report, .sites, .verdict'), one => one.outerHTML)"
+        for name in ("ledger", "warehouse", "feeds", "transfers", "stock_levels", "mailer"):
+            with self.subTest(name):
+                told = Inputs(str(_RECORDINGS / f"{name}.json")).told()
+                self.show_drawn(samples.Text(told.source, told.text))
+                self.asked(_WHOLE)
+                drawn = self.asked(shown)
+                self.show(told.run())
+                self.assertEqual(drawn, self.asked(shown))
 
     def test_a_line_opens_to_its_deferreds(self) -> None:
         self.show(run_of_service("warehouse"))
