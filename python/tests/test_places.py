@@ -80,6 +80,40 @@ _AWAITS = """
         one.callback(2)
 """
 
+#: an object of the program that a coroutine awaits, and that notes what it is asked for
+_NOSY = """
+    from twisted.internet import defer
+
+    class Nosy:
+        def __init__(self, answer):
+            self.answers = [answer]
+
+        def __await__(self):
+            return self
+
+        def __iter__(self):
+            return self
+
+        def __next__(self):
+            if self.answers:
+                return self.answers.pop()
+            raise StopIteration
+
+        def __getattr__(self, name):
+            asked.append(name)
+            raise AttributeError(name)
+
+    async def body():
+        await Nosy(answer)
+        print("answered")
+
+    asked = []
+    answer = defer.Deferred()
+    defer.ensureDeferred(body())
+    answer.callback(None)
+    print(asked)
+"""
+
 
 def _recorded(folder: Path, texts: Dict[str, str]) -> Tuple[Dict[str, Any], Dict[str, Any]]:
     """The script and the places of `program.py` among these files, recorded in a folder."""
@@ -116,6 +150,15 @@ class AwaitsTest(unittest.TestCase):
                 found[at[1]] = lines[line - 1].strip()
         made = [name for name, (_, line) in places["deferreds"].items() if lines[line - 1].startswith("later = ")]
         self.assertEqual([found[name] for name in made], ["await later[0]", "await later[1]", "yield later[2]", "yield ("])
+
+    def test_an_object_of_the_program_that_is_awaited_is_asked_for_nothing(self) -> None:
+        room = tempfile.TemporaryDirectory()
+        self.addCleanup(room.cleanup)
+        script, places = _recorded(Path(room.name).resolve(), {"program.py": _NOSY})
+        self.assertIn('["note", "answered"]', json.dumps(script))
+        self.assertIn('["note", "[]"]', json.dumps(script))
+        lines = textwrap.dedent(_NOSY).splitlines()
+        self.assertIn("await Nosy(answer)", [lines[line - 1].strip() for _, line in places["actions"].values()])
 
 
 class PlacesTest(unittest.TestCase):

@@ -16,6 +16,7 @@ from deferreds.view.as_json import AsJson
 from deferreds.view.findings import Finding, Kind, Severity
 from deferreds.view.inputs import Inputs
 from deferreds.view.pages import written_page
+from deferreds.view.places import Place, Places
 from deferreds.view.run import Run
 from deferreds.view.terminal import Terminal
 
@@ -132,6 +133,19 @@ class Causes(unittest.TestCase):
             places = {f"{Path(place['file']).name}:{place['line']}" for place in first["places"]}
             self.assertLessEqual(set(cause.lines), places, name)
             self.assertEqual({place["file"].rpartition("/")[0] for place in first["places"]}, {"/srv/shop"})
+
+
+class AsJsonTest(unittest.TestCase):
+    """What other programs read."""
+
+    def test_hostile_texts_are_escaped_and_read_back(self) -> None:
+        run = samples.hostile()
+        run.places = Places({f"d{number}": Place(f"/srv/{text[:20]}\udcff.py", 3) for number, text in enumerate(samples.HOSTILE)}, {})
+        text = AsJson(run).text()
+        self.assertTrue(text.isascii() and text.isprintable())
+        told = json.loads(text)
+        self.assertEqual(told["title"], run.title)
+        self.assertEqual(told["made"][0]["deferreds"][0]["end"], run.fold.records[0].end)
 
 
 class ByLine(unittest.TestCase):

@@ -26,7 +26,7 @@ class AsJson:
         self._terminal = Terminal(run, False)
 
     def text(self) -> str:
-        """The whole as one line."""
+        """The whole as one line, in ASCII: a text of a stranger does nothing to a terminal."""
         run = self._run
         told = {
             "version": _VERSION,
@@ -38,7 +38,7 @@ class AsJson:
             "report": [self._finding(finding) for finding in run.report.findings],
             "made": [self._site(site) for site in run.inferred.sites.all],
         }
-        return json.dumps(told, ensure_ascii=False)
+        return json.dumps(told)
 
     def _finding(self, finding: Finding) -> Json:
         phrases = [finding.said, *finding.details]

@@ -10,7 +10,7 @@ import re
 import sys
 import sysconfig
 from asyncio import base_events
-from types import CodeType, FrameType
+from types import CodeType, CoroutineType, FrameType, GeneratorType
 from typing import Any, Dict, Iterable, Iterator, List, Optional, Set, Tuple
 
 import twisted
@@ -160,13 +160,18 @@ class Spots:
     def note_await(self, awaited: object, generator: Any) -> None:
         """An inline body awaits: where it stands, or the innermost coroutine of the program that it awaits itself."""
         own = None
-        while generator is not None:
-            frame = _frame_of(generator)
-            if frame is None:
+        while True:
+            # (nothing else is asked for an attribute: it may be an object of the program's)
+            kind = type(generator)
+            if kind is CoroutineType:
+                frame, inner = generator.cr_frame, generator.cr_await
+            elif kind is GeneratorType:
+                frame, inner = generator.gi_frame, generator.gi_yieldfrom
+            else:
                 break
-            if _OWN_FILES[frame.f_code.co_filename]:
+            if frame is not None and _OWN_FILES[frame.f_code.co_filename]:
                 own = frame
-            generator = getattr(generator, "cr_await", None) or getattr(generator, "gi_yieldfrom", None)
+            generator = inner
         if own is not None:
             self._note((awaited, own.f_code, own.f_lasti))
 
