@@ -247,12 +247,6 @@ def is_running(file: str) -> bool:
     return file in _RUNNING
 
 
-def _frame_of(generator: Any) -> Optional[FrameType]:
-    """The frame of a generator or of a coroutine that has begun and goes on; None of anything else."""
-    frame = getattr(generator, "gi_frame", None) or getattr(generator, "cr_frame", None)
-    return frame if isinstance(frame, FrameType) else None
-
-
 def program_frame(inside: int = 0) -> Optional[FrameType]:
     """The innermost frame of the program. The caller's own and so many more around it are known to be none."""
     try:
