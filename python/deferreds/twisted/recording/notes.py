@@ -117,7 +117,7 @@ class NotesFile:
     """
 
     def __init__(self, path: Path, say: Callable[[str], None]) -> None:
-        """`say` is told once why segments can't be written. Raises OSError if the file can't be made."""
+        """`say` is called once, with why segments can't be written. Raises OSError if the file can't be made."""
         self.path = path
         self._say = say
         self._has_said = False
