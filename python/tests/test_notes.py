@@ -154,7 +154,8 @@ class Recordings(RecordingCase):
     def test_memory_is_bounded(self) -> None:
         ended = self.record("-o", "run", "--notes", "grows.py")
         early, late = (int(line.split()[1]) for line in ended.printed.splitlines())
-        self.assertLess(late - early, 2_000, "3,000 requests leave less than an object each")
+        # (the 3,000 requests between leave 48,000 objects without notes; what isn't written yet are at most so many parts of lines)
+        self.assertLess(late - early, 8_192)
         self.assert_goes_together("run")
 
 
