@@ -15,7 +15,7 @@ from programs import TOP
 #: the folders that have commands
 _FOLDERS = (".", "bench", "checks", "faults", "packaging", "python", "wrapping")
 #: the commands that have no help
-_WITHOUT_HELP = {"packaging/set_version.py", "python/check_types", "python/make_drawing", "python/recorded_rows", "python/twisted_of_suite"}
+_WITHOUT_HELP = {"packaging/set_version.py", "python/check_types", "python/recorded_rows", "python/twisted_of_suite"}
 #: those that take no words, and do their work, which is more than a test may
 _WITHOUT_WORDS = {"packaging/try_in_debian", "python/ci", "python/view_ci"}
 #: the program of the launcher has words of its own for it

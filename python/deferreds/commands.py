@@ -11,7 +11,7 @@ from .checkout import command_name
 from .ending import ended, open_streams
 from .program import NOT_RUN
 from .twisted.known import UnknownTwisted, refuse_unusable
-from .view.start import start
+from .view.command import start
 
 #: the commands that run a program of the user's, whose standard streams are as they were given
 _RUN_PROGRAMS = ("record", "trial")

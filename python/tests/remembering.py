@@ -8,6 +8,7 @@ from __future__ import annotations
 
 import sys
 from pathlib import Path
+from time import time
 from typing import Any, Dict, List, Tuple
 
 from deferreds.twisted.recording.hiding import SECRETS
@@ -26,7 +27,7 @@ class Remembering(Noting):
 
     def __init__(self, recorder: NotedRecorder) -> None:
         super().__init__(recorder)
-        self._kept: Dict[str, List[Any]] = {name: [] for name in (*_LISTS, "failed", "quirks_of", "spots")}
+        self._kept: Dict[str, List[Any]] = {name: [] for name in (*_LISTS, "failed", "quirks_of", "spots", "calls", "made")}
         self._kept_runs: Dict[int, Tuple[Any, List[Any]]] = {}
         self._kept_done: Dict[int, List[Any]] = {}
         self._kept_bodies: Dict[int, Tuple[Any, List[Any]]] = {}
@@ -47,6 +48,8 @@ class Remembering(Noting):
         self._kept["failed"] += recorder.failed
         self._kept["quirks_of"] += recorder.quirks_of
         self._kept["spots"] += recorder.spots.noted
+        self._kept["calls"] += recorder.spots.calls
+        self._kept["made"] += recorder.spots.places_of_things
         for runs, run in self.begun:
             self._kept_runs.setdefault(id(runs), (runs, []))[1].append(run)
         for run in {id(run): run for run in (*(run for _, run in self.begun), *self.going.values())}.values():
@@ -92,6 +95,8 @@ class Remembering(Noting):
         for name in (*_LISTS, "failed", "quirks_of"):
             setattr(recorder, name, self._kept[name])
         recorder.spots.noted[:] = self._kept["spots"]
+        recorder.spots.calls[:] = self._kept["calls"]
+        recorder.spots.places_of_things[:] = self._kept["made"]
         for runs, here in self._kept_runs.values():
             list.clear(runs)
             runs.before = 0
@@ -122,7 +127,7 @@ def differences(one: Said, other: Said) -> List[str]:
 def main(folder: str, program: str, words: List[str]) -> None:
     """Records the program, and compares."""
     file = NotesFile(Path(folder, "run.notes"), print)
-    file.add(header(SECRETS, "", ""))
+    file.add(header(SECRETS, "", "", time()))
     recorder = NotedRecorder()
     noting = recorder.noting = Remembering(recorder)
     noting.begin(file, print)

@@ -2,7 +2,10 @@
 
 from __future__ import annotations
 
-from typing import Any, Dict
+from typing import Any, Dict, List
+
+from deferreds.view.inputs import read_any
+from deferreds.view.terminal import Terminal
 
 from .forked import Forked
 from .recording_of import Ended, RecordingCase
@@ -21,7 +24,19 @@ class ShakenCase(RecordingCase):
         """A search to its end."""
         return self.record(*words[:-1], str(SHAKEN / words[-1]))
 
+    def scripts(self) -> List[str]:
+        """The names of the scripts of runs. Those of every order stand beside some of them."""
+        return [name for name in super().scripts() if not name.endswith(".orders")]
+
+    def copied_of_races(self, name: str) -> str:
+        """The text of a program with a race."""
+        return (SHAKEN / "races" / f"{name}.py").read_text(encoding="utf-8")
+
     def shaken_facts(self, name: str) -> Dict[str, Any]:
         """What the list of the files says of how the run was shaken."""
         facts: Dict[str, Any] = self.facts(name)["shaken"]
         return facts
+
+    def report(self, name: str) -> List[str]:
+        """The report that the view makes of a recording."""
+        return list(Terminal(read_any(str(self.folder / f"{name}.journal")), False).report())

@@ -14,7 +14,7 @@ from pathlib import Path
 from types import ModuleType
 from typing import Any, List, Tuple
 
-from deferreds.twisted.comparing import compared
+from deferreds.twisted.answers import compared
 from deferreds.twisted.programs import Answer, ours
 from deferreds.twisted.recording.case import TestRun, record_test
 from deferreds.twisted.recording.programs import tests_of

@@ -7,9 +7,10 @@ import unittest
 from typing import Callable, List, Optional
 
 from deferreds.twisted import grammar
+from deferreds.twisted.answers import compared
 from deferreds.twisted.children import MOST_BYTES
 from deferreds.twisted.classes import BUILT_IN
-from deferreds.twisted.comparing import Comparison, compared, difference, is_of_level
+from deferreds.twisted.comparing import Comparison, difference, is_of_level
 from deferreds.twisted.cutting import cut_down
 from deferreds.twisted.posts import batches_of
 from deferreds.twisted.profile import Entry

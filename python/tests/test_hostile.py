@@ -8,7 +8,7 @@ import json
 import unittest
 from typing import Iterator, Optional
 
-from deferreds.twisted.comparing import compared
+from deferreds.twisted.answers import compared
 from deferreds.twisted.instruments import install
 from deferreds.twisted.programs import Answer
 from deferreds.twisted.randoms import Scripts

@@ -26,6 +26,7 @@ WORDS = {
     "measure": [],
     "measure_shaking": [__file__],
     "on_twisted": [],
+    "reached": [],
     "record": ["-o", "/dev/null/run", __file__],
     "recorded_rows": ["--check"],
     "trial": ["--deferreds-record", "/dev/null/run", __name__],

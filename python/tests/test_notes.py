@@ -240,7 +240,7 @@ class Killed(RecordingCase):
                 try:
                     found = noted(read_notes(self.folder / "cut.notes"))
                 except BadNotes:
-                    self.assertLess(len(data) * (place + 1) // 100, len(segment(header("secrets", "22.4.0", "3.11.2"))) + 8)
+                    self.assertLess(len(data) * (place + 1) // 100, len(segment(header("secrets", "22.4.0", "3.11.2", 0.0))) + 8)
                     continue
                 said = Said(found.recorder, found.ended)
                 lengths.add(len(said.journal))
@@ -285,7 +285,7 @@ class Words(RecordingCase):
         self.assertEqual(self.text("other"), "")
 
     def test_files_that_arent_notes(self) -> None:
-        first = header("secrets", "22.4.0", "3.11.2")
+        first = header("secrets", "22.4.0", "3.11.2", 0.0)
         wrong = {
             "text": b"hello\n" * 100,
             "empty": b"",

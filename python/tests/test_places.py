@@ -115,12 +115,12 @@ _NOSY = """
 """
 
 
-def _recorded(folder: Path, texts: Dict[str, str]) -> Tuple[Dict[str, Any], Dict[str, Any]]:
+def _recorded(folder: Path, texts: Dict[str, str], *words: str) -> Tuple[Dict[str, Any], Dict[str, Any]]:
     """The script and the places of `program.py` among these files, recorded in a folder."""
     for name, text in texts.items():
         (folder / name).write_text(textwrap.dedent(text), encoding="utf-8")
     ran = subprocess.run(
-        [sys.executable, "-m", "deferreds.twisted", "record", "-o", "run", "program.py"],
+        [sys.executable, "-m", "deferreds.twisted", "record", "-o", "run", *words, "program.py"],
         cwd=folder,
         env={**os.environ, "PYTHONPATH": os.pathsep.join(map(os.path.abspath, filter(None, sys.path)))},
         stdout=subprocess.DEVNULL,
@@ -159,6 +159,146 @@ class AwaitsTest(unittest.TestCase):
         self.assertIn('["note", "[]"]', json.dumps(script))
         lines = textwrap.dedent(_NOSY).splitlines()
         self.assertIn("await Nosy(answer)", [lines[line - 1].strip() for _, line in places["actions"].values()])
+
+
+_CALLED = """
+    from client import ask
+    from twisted.internet import defer, task
+
+    clock = task.Clock()
+
+    def deep(depth):
+        return deep(depth - 1) if depth else ask()
+
+    def called():
+        return [ask() for _ in range(1)][0]
+
+    async def order():
+        await ask()
+        await ask()
+
+    @defer.inlineCallbacks
+    def shop():
+        yield defer.ensureDeferred(order())
+
+    clock.callLater(1, called)
+    ask().addCallback(lambda value: called())
+    deep(5)
+    shop()
+    clock.advance(1)
+    first[0].callback(1)
+    first[2].callback(2)
+"""
+
+_CLIENT = """
+    import builtins
+    from twisted.internet.defer import Deferred
+
+    builtins.first = []
+
+    def ask():
+        answer = Deferred()
+        first.append(answer)
+        return answer
+"""
+
+#: where each Deferred of `ask` was made: the functions on Python's stack, innermost first, and those around each body
+_STACKS = [
+    [["ask answer = Deferred()", "<module> ask().addCallback(lambda value: called())"]],
+    [["ask answer = Deferred()", *["deep return deep(depth - 1) if depth else ask()"] * 3]],
+    [["ask answer = Deferred()", "order await ask()"], ["shop yield defer.ensureDeferred(order())"], ["<module> shop()"]],
+    [["ask answer = Deferred()", "called return [ask() for _ in range(1)][0]"], ["<module> clock.callLater(1, called)"]],
+    [
+        ["ask answer = Deferred()", "called return [ask() for _ in range(1)][0]", "<lambda> ask().addCallback(lambda value: called())"],
+        ["<module> ask().addCallback(lambda value: called())"],
+    ],
+    [["ask answer = Deferred()", "order await ask()"], ["shop yield defer.ensureDeferred(order())"], ["<module> shop()"]],
+]
+
+
+class StacksTest(unittest.TestCase):
+    """A recorded program, and the functions in which its Deferreds were made and its actions ran."""
+
+    folder: Path
+    script: Dict[str, Any]
+    places: Dict[str, Any]
+
+    @classmethod
+    def setUpClass(cls) -> None:
+        room = tempfile.TemporaryDirectory()
+        cls.addClassCleanup(room.cleanup)
+        cls.folder = Path(room.name).resolve()
+        cls.script, cls.places = _recorded(cls.folder, {"program.py": _CALLED, "client.py": _CLIENT})
+
+    def stack(self, number: int) -> List[List[str]]:
+        """A list of the file: for each function its name, and the line of the program."""
+        return [[self._frame(*self.places["stacks"]["frames"][frame]) for frame in part] for part in self.places["stacks"]["lists"][number]]
+
+    def _frame(self, file: int, line: int, function: str) -> str:
+        text = Path(self.places["files"][file]).read_text(encoding="utf-8")
+        return f"{function} {text.splitlines()[line - 1].strip()}"
+
+    def test_a_deferred_has_the_functions_that_have_led_to_it(self) -> None:
+        stacks = self.places["stacks"]["deferreds"]
+        asked = [name for name in self.places["deferreds"] if name.startswith("ask_")]
+        self.assertEqual([self.stack(stacks[name]) for name in asked], _STACKS)
+
+    def test_each_place_is_the_first_of_its_stack(self) -> None:
+        for kind in ("deferreds", "actions"):
+            places, stacks = self.places[kind], self.places["stacks"][kind]
+            self.assertEqual(list(places), list(stacks))
+            for name, place in places.items():
+                self.assertEqual(self.places["stacks"]["frames"][self.places["stacks"]["lists"][stacks[name]][0][0]][:2], place)
+
+    def test_an_action_has_them_too(self) -> None:
+        added = next(f"/events/{number}" for number, event in enumerate(self.script["events"]) if event[0] == "addCallback")
+        self.assertEqual(self.stack(self.places["stacks"]["actions"][added]), [["<module> ask().addCallback(lambda value: called())"]])
+
+    def test_the_lines_around_each_are_kept(self) -> None:
+        kept = {(file, first + at): line for file, first, lines in self.places["sources"] for at, line in enumerate(lines)}
+        for file, line, _ in self.places["stacks"]["frames"]:
+            text = Path(self.places["files"][file]).read_text(encoding="utf-8").split("\n")
+            for number in range(max(1, line - 3), min(len(text), line + 3) + 1):
+                self.assertEqual(kept[file, number], text[number - 1])
+
+    def test_each_is_written_once(self) -> None:
+        stacks = self.places["stacks"]
+        for table in ("frames", "lists"):
+            self.assertEqual(len(set(map(str, stacks[table]))), len(stacks[table]))
+
+
+_THINGS = """
+    from twisted.internet import defer
+
+    class Pool:
+        def __init__(self, name):
+            self.locks = {}
+            self.locks[name] = defer.DeferredLock()
+            self.slots = defer.DeferredSemaphore(2)
+            self.queue = defer.DeferredQueue()
+
+    def use(pool):
+        pool.locks["a"].acquire()
+        pool.slots.acquire()
+        pool.queue.get()
+
+    use(Pool("a"))
+    use(Pool("a"))
+"""
+
+
+class ThingsTest(unittest.TestCase):
+    """A recorded program, and where its locks and queues were made, which are recorded where they are used first."""
+
+    def test_each_has_the_line_that_made_it(self) -> None:
+        for words in ([], ["--notes"]):
+            with tempfile.TemporaryDirectory() as room:
+                script, places = _recorded(Path(room).resolve(), {"program.py": _THINGS}, *words)
+                lines = textwrap.dedent(_THINGS).splitlines()
+                found = {name: lines[line - 1].strip() for name, (_, line) in places["things"].items()}
+                made = [event[1] for event in script["events"] if event[0] in ("lock", "semaphore", "queue")]
+                expected = ["self.locks[name] = defer.DeferredLock()", "self.slots = defer.DeferredSemaphore(2)", "self.queue = defer.DeferredQueue()"]
+                self.assertEqual([found[name] for name in made], expected * 2)
 
 
 class PlacesTest(unittest.TestCase):
@@ -256,7 +396,8 @@ class RecordTest(unittest.TestCase):
             page = Path(f"{name}.html").read_text(encoding="utf-8")
             address = program.as_uri()
             link = f'<a class=at target=_top href="{address}" title="{program}:2"><bdi>a b.py:2</bdi></a>'
-            self.assertEqual(page.count(link), 3)  # at the outcome, and at two events
+            self.assertEqual(page.count(link), 1)  # at the line that made it
+            self.assertIn(f'"files":[["{program}","a b.py","{address}"]]', page)  # for the outcome, and two events
             self.assertIn("%20", address)
 
 

@@ -18,7 +18,7 @@ from pathlib import Path
 from typing import Dict, List, NamedTuple, Optional
 
 from deferreds.program import NotRun, built
-from deferreds.twisted.comparing import compared
+from deferreds.twisted.answers import compared
 from deferreds.twisted.instruments import install
 from deferreds.twisted.programs import Answer, Once
 from deferreds.twisted.recording.bodies import deepest

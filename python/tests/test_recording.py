@@ -294,7 +294,7 @@ class Shown(unittest.TestCase):
             self.assertEqual(ran.returncode, 0, ran.stderr)
             page = Path(f"{name}.html").read_text(encoding="utf-8")
         self.assertIn("122 lines, 14 Deferreds, 15 events, 6 s, a tick is 1 s", page)
-        self.assertIn("event 0  <b><bdi>inline worker_56 ", page)
+        self.assertIn(" inline worker_56 [queue queue_worker_37 ", page)
 
 
 class Command(unittest.TestCase):

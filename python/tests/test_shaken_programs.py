@@ -41,7 +41,8 @@ for path, settings, reactor, expected, tries in json.loads(sys.argv[1]):
         ended = run_shaken(path, settings, reactor)
         if ended.status == expected:
             break
-    print(json.dumps([ended.status, ended.output, Counter(key.split(" ")[0] for key in ended.met)]), flush=True)
+    met, waits = Counter(key.split(" ")[0] for key in ended.met), ended.waits
+    print(json.dumps([ended.status, ended.output, met, ended.seconds, waits.skipped, waits.reasons]), flush=True)
 """
 
 #: how often a race is tried: a busy machine shakes, too, and threads aren't determined
@@ -57,6 +58,10 @@ class Shaken(NamedTuple):
     status: int
     output: str
     met: Dict[str, int]
+    #: how many seconds it took, how many of its waits were left out, and why how many others weren't
+    seconds: float
+    skipped: float
+    waited: Dict[str, int]
 
 
 class Asked(NamedTuple):
@@ -103,6 +108,31 @@ class LawfulTest(unittest.TestCase):
         self.assertEqual([one.output for one in runs if one.status != 0], [])
         for first in range(0, len(runs), len(paths)):
             self.assertLess({"hold", "cut", "order"}, {kind for one in runs[first : first + len(paths)] for kind in one.met})
+
+
+class FastTest(unittest.TestCase):
+    """Programs that wait for long, with a clock that jumps: each knows in which order what it waits for has to come."""
+
+    #: how many seconds each leaves out at least, and why it waits otherwise
+    WAITS: Dict[str, Tuple[float, Sequence[str]]] = {
+        "child_first": (35, ["a process runs"]),
+        "connection": (9.9, ["port 1 made at connection.py:29", "connection 1 made at connection.py:30", "connection 1 accepted by port 1"]),
+        "job_first": (23, ["a thread of a pool works", "the thread Thread-"]),
+        "minutes": (60, []),
+    }
+
+    def test_what_comes_before_a_wait_is_over_is_waited_for_on_each_reactor(self) -> None:
+        paths = programs("fast")
+        self.assertEqual([path.stem for path in paths], sorted(self.WAITS))
+        settings: List[Dict[str, Any]] = [{"seed": 0, "kinds": [], "is_fast": True}, {"seed": 3, "is_fast": True}]
+        asked = [Asked(path, one, reactor) for reactor in ("epoll", "poll", "select", "asyncio") for path in paths for one in settings]
+        for one, ran in zip(asked, shaken(asked)):
+            least, reasons = self.WAITS[one.path.stem]
+            self.assertEqual(ran.status, 0, (one, ran))
+            self.assertGreater(ran.skipped, least, (one, ran))
+            self.assertLess(ran.seconds, least, (one, ran))
+            self.assertEqual(bool(ran.waited), bool(reasons), (one, ran))
+            self.assertTrue(all(why.startswith(tuple(reasons)) for why in ran.waited), (one, ran))
 
 
 class RacesTest(unittest.TestCase):

@@ -14,6 +14,17 @@ from .test_shaken_programs import SECONDS, SHAKEN, TRIES
 _HAS_PYTEST = importlib.util.find_spec("pytest") is not None
 
 
+#: a test that fails if the folder of another run is there
+_ALONE = """
+import os
+from twisted.trial.unittest import TestCase
+
+class AloneTest(TestCase):
+    def test_alone(self):
+        self.assertEqual(os.listdir(os.pardir), [os.path.basename(os.getcwd())])
+"""
+
+
 class ShakenTestsTest(ShakenCase):
     """Each test is shaken alone."""
 
@@ -56,6 +67,12 @@ class ShakenTestsTest(ShakenCase):
                 break
         self.assertEqual(self.facts("test_hangs")["ended"], "asked by SIGUSR1")
 
+    def test_the_folder_of_a_run_is_removed_when_that_has_ended(self) -> None:
+        (self.folder / "test_alone.py").write_text(_ALONE, encoding="utf-8")
+        ended = self.record("--shake", "3", "--test", "test_alone")
+        self.assertEqual(ended.status, 0, ended.said)
+        self.assertIn("none of 3 shaken runs failed, ", ended.said)
+
     def test_trial_shakes_tests_on_a_reactor(self) -> None:
         shutil.copy(SHAKEN / "test_deposits.py", self.folder)
         words = ["--shake", "3", "--reactor", "select", "--deferreds-record", "out", "test_deposits.DepositTest", "test_deposits.ConnectionTest"]
@@ -78,10 +95,26 @@ class ShakenTestsTest(ShakenCase):
         self.assertRegex(said[0], r"none of 3 shaken runs failed, [\d.]+ s; they met \d+ perturbations?\n")
         self.assertIn("nothing is shaken, since no plain run passes\n", said[1])
         self.assertEqual(self.files(), ["out", "test_deposits.py", "written"])
-        for words, why in ((["--shake", "0"], "--shake: the number of runs is from 1 on"), (["--shake", "2", "no_such.py"], "--shake: no tests are found:")):
+        for words, why in ((["--shake", "0"], "--shake: the number of runs is from 1 on"), (["--shake", "2", "no_such.py"], "--shake: no tests are found:"), (["--shake", "2", "--shake-within", "nan"], "--shake-within is a number of more than 0")):
             refused = run([*plugin, *words], self.folder, environment(), seconds=SECONDS)
             self.assertEqual(refused.returncode, 4, refused.stdout)
             self.assertIn(why, refused.stderr)
+
+    @unittest.skipUnless(_HAS_PYTEST, "pytest isn't here")
+    def test_pytest_records_a_test_that_hangs(self) -> None:
+        hurried = (SHAKEN / "test_deposits.py").read_text(encoding="utf-8").replace("callLater(0.3,", "callLater(0.04,")
+        (self.folder / "test_deposits.py").write_text(hurried, encoding="utf-8")
+        plugin = ["-m", "pytest", "-p", "deferreds.testing.pytest_plugin"]
+        for seconds in ("4", "15"):  # (on a busy machine it may take four seconds until it can be asked for its recording)
+            words = ["--shake", "60", "--shake-within", seconds, "--shake-no-cut", "-k", "hangs"]
+            ran = run([*plugin, *words, "test_deposits.py"], self.folder, environment(), seconds=SECONDS)
+            self.assertEqual(ran.returncode, 1, ran.stderr)
+            self.assertIn(f": it takes longer than {seconds} s\n", ran.stderr)
+            if self.scripts():
+                break
+        self.assertEqual(self.scripts(), ["test_deposits.HangingTest.test_hangs"])
+        self.assertEqual(self.facts("test_deposits.HangingTest.test_hangs")["ended"], "asked by SIGUSR1")
+        self.assertIn(" unfired\n", self.text("test_deposits.HangingTest.test_hangs.journal"))
 
     @unittest.skipUnless(_HAS_PYTEST, "pytest isn't here")
     def test_pytest_records_a_run_that_fails(self) -> None:
@@ -90,12 +123,14 @@ class ShakenTestsTest(ShakenCase):
         (self.folder / "test_deposits.py").write_text(hurried, encoding="utf-8")
         plugin = ["-m", "pytest", "-p", "deferreds.testing.pytest_plugin"]
         for _ in range(TRIES):
-            ran = run([*plugin, "--shake", "20", "test_deposits.py::DepositTest::test_two"], self.folder, environment(), seconds=SECONDS)
-            if "test_two.html shows the run that fails" in ran.stderr:
+            words = ["--shake", "20", "--shake-no-cut", "test_deposits.py::DepositTest::test_two"]
+            ran = run([*plugin, *words], self.folder, environment(), seconds=SECONDS)
+            if "test_two.html shows the run that fails" in ran.stderr and "test_two.compared.html shows it beside" in ran.stderr:
                 break
         self.assertEqual(ran.returncode, 1, ran.stderr)
         self.assertEqual(self.scripts(), ["test_deposits.DepositTest.test_two"])
         self.assertEqual(self.shaken_facts("test_deposits.DepositTest.test_two")["fails"], "its status is 1")
+        self.assertIn("test_deposits.DepositTest.test_two.compared.html", self.files())
 
 
 if __name__ == "__main__":

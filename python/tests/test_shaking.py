@@ -4,21 +4,27 @@ from __future__ import annotations
 
 import gc
 import os
+import re
 import signal
+import subprocess
 import sys
+import threading
 import time
 import unittest
 from collections import Counter
-from typing import Dict, List, Optional, Sequence, Tuple
+from typing import Callable, Dict, List, Optional, Sequence, Tuple
 
+from deferreds.twisted.shaking.beside import Recording, page_beside
 from deferreds.twisted.shaking.choices import KINDS, Choices, Settings
 from deferreds.twisted.shaking.failing import LEFT, STATUS, Judge
+from deferreds.twisted.shaking.fast import Fast, Waits
 from deferreds.twisted.shaking.log import Log
 from deferreds.twisted.shaking.naming import Counts, cleaned, ordinal, place_of_program
 from deferreds.twisted.shaking.needed import Cutting
 from deferreds.twisted.shaking.runs import Ended, run
 from deferreds.twisted.shaking.shaker import CAME, Shaker
 from deferreds.twisted.shaking.telling_order import Seen, sentence
+from deferreds.view.names import WHOLE_JOURNAL
 
 _WHO = [f"thread-{number}" for number in range(40)]
 
@@ -60,8 +66,9 @@ class ChoicesTest(unittest.TestCase):
 
     def test_who_comes_very_often_is_seldom_held_up(self) -> None:
         early = sum(len(sizes(Settings(seed), ["post"])) for seed in range(30))
-        late = sum(len(sizes(Settings(seed), ["post"], 5000)) for seed in range(30))
-        self.assertLess(late * 50, early)
+        late = sum(len(sizes(Settings(seed), ["post"], 1900)) for seed in range(30))
+        self.assertTrue(0 < late * 50 < early, (late, early))
+        self.assertEqual([sizes(Settings(seed), ["post"], 2001) for seed in range(30)], [{}] * 30)
 
     def test_delays_are_as_long_as_is_asked(self) -> None:
         for seed in range(20):
@@ -211,6 +218,109 @@ class JudgeTest(unittest.TestCase):
         self.assertEqual(whys('grep -q good "$SHAKEN_OUTPUT"', [], [ended(output="good\n")]), [None])
 
 
+class FastTest(unittest.TestCase):
+    """A clock that jumps, in a process that has neither threads nor children."""
+
+    def alone(self, part: Callable[[], None]) -> None:
+        """Runs a part of a test in a process of its own."""
+        ended = run(lambda log: part() or 0, 60.0)
+        self.assertEqual((ended.output, ended.status), ("", 0))
+
+    def wait(self, fast: Fast, seconds: Optional[float], watched: Sequence[str] = (), found: Sequence[str] = ()) -> Tuple[List[str], List[Optional[float]]]:
+        """What is found, and for how long was waited."""
+        asked: List[Optional[float]] = []
+
+        def ask(most: Optional[float]) -> List[str]:
+            asked.append(most)
+            time.sleep(min(most or 0.0, 0.005))
+            return list(found)
+
+        return fast.wait(ask, seconds, lambda: watched), asked
+
+    def test_a_wait_for_time_alone_is_left_out(self) -> None:
+        def part() -> None:
+            fast = Fast()
+            self.assertEqual([self.wait(fast, 30.0), self.wait(fast, 12.5)], [([], [0.0])] * 2)
+            self.assertEqual(fast.waits, Waits(2, 42.5))
+            self.assertEqual(fast.waits.said, "--fast left out 2 waits, of 42.5 s in all")
+
+        self.alone(part)
+
+    def test_what_is_ready_comes_without_a_jump(self) -> None:
+        def part() -> None:
+            fast = Fast()
+            self.assertEqual(self.wait(fast, 30.0, found=["post"]), (["post"], [0.0]))
+            self.assertEqual(fast.waits, Waits())
+
+        self.alone(part)
+
+    def test_short_waits_and_those_without_end_are_as_ever(self) -> None:
+        def part() -> None:
+            fast = Fast()
+            self.assertEqual([self.wait(fast, seconds)[1] for seconds in (None, 0.0, 0.001)], [[None], [0.0], [0.001]])
+            self.assertEqual(fast.waits, Waits())
+
+        self.alone(part)
+
+    def test_it_waits_while_something_else_can_come(self) -> None:
+        def part() -> None:
+            fast, going = Fast(), threading.Event()
+            asked = self.wait(fast, 30.0, ["port 1"], ["read"])[1]
+            thread = threading.Thread(target=going.wait, name="worker")
+            thread.start()
+            asked += self.wait(fast, 20.0, found=["post"])[1]
+            going.set()
+            thread.join()
+            child = subprocess.Popen(["sleep", "60"])
+            asked += self.wait(fast, 10.0, found=["end"])[1]
+            child.kill()
+            child.wait()
+            signal.setitimer(signal.ITIMER_REAL, 60)
+            asked += self.wait(fast, 0.015, found=["signal"])[1]
+            signal.setitimer(signal.ITIMER_REAL, 0)
+            asked += self.wait(fast, 1.0)[1]
+            self.assertEqual(asked, [0.02, 0.02, 0.02, 0.015, 0.0])
+            reasons = ["port 1 is watched", "the thread worker works", "a process runs", "a timer of the system runs"]
+            self.assertEqual((fast.waits.jumps, fast.waits.reasons), (1, Counter(reasons)))
+            said = ", ".join(f"{reason} (1 time)" for reason in reasons[:3])
+            self.assertRegex(fast.waits.said, rf"^--fast left out 1 wait, of 1\.0 s in all; it waited 4 times, 0\.\d s in all, since {re.escape(said)}, and 1 more$")
+
+        self.alone(part)
+
+    def test_the_rest_of_a_wait_is_left_out_once_nothing_else_can_come(self) -> None:
+        def part() -> None:
+            fast = Fast()
+            thread = threading.Thread(target=time.sleep, args=(0.05,), name="worker")
+            thread.start()
+            found, asked = self.wait(fast, 600.0)
+            self.assertEqual((found, asked[0], asked[-1], fast.waits.jumps, fast.waits.reasons), ([], 0.02, 0.0, 1, Counter(["the thread worker works"])))
+            self.assertTrue(0.04 < fast.waits.waited < 300 < fast.waits.skipped, fast.waits)
+            self.assertAlmostEqual(fast.waits.waited + fast.waits.skipped, 600.0, 1)
+
+        self.alone(part)
+
+    def test_a_wait_in_which_nothing_comes_is_as_long_as_ever(self) -> None:
+        def part() -> None:
+            fast = Fast()
+            self.assertEqual(self.wait(fast, 0.03, ["port 1"])[0], [])
+            self.assertEqual((fast.waits.jumps, fast.waits.waited >= 0.03), (0, True))
+
+        self.alone(part)
+
+    def test_all_clocks_go_on_by_as_much(self) -> None:
+        def program(log: Log) -> int:
+            fast = Fast(log)
+            fast.install()
+            clocks = [time.time, time.monotonic, time.perf_counter, lambda: time.time_ns() / 1e9, lambda: time.monotonic_ns() / 1e9, lambda: time.perf_counter_ns() / 1e9]
+            before = [clock() for clock in clocks]
+            self.wait(fast, 500.0)
+            print([round((clock() - then) / 100) for clock, then in zip(clocks, before)], [clock.__name__ for clock in clocks[:3]])
+            return 0
+
+        ended = run(program, 20.0)
+        self.assertEqual((ended.output, ended.waits), ("[5, 5, 5, 5, 5, 5] ['time', 'monotonic', 'perf_counter']\n", Waits(1, 500.0)))
+
+
 class CuttingTest(unittest.TestCase):
     """The least perturbations that a failure needs."""
 
@@ -243,6 +353,18 @@ class CuttingTest(unittest.TestCase):
         cutting = Cutting(lambda some: set(keys[::2]) <= set(some), 60)
         cutting.cut(keys)
         self.assertLessEqual(cutting.runs, 60)
+
+
+class BesideTest(unittest.TestCase):
+    """The page of two runs."""
+
+    def test_journals_are_compared_where_no_script_has_the_whole_run(self) -> None:
+        texts = ["new #0 a\nfire #0 ok 1\n#0 a ok 1\n", "new #0 a\n#0 a unfired\n"]
+        failing, passing = (Recording({".json": "{}", ".journal": "new #0 b\n#0 b unfired\n", WHOLE_JOURNAL: text}, {"tick": "1 ms"}) for text in texts)
+        page = page_beside("p", failing, passing)
+        self.assertIn("<h1><bdi>p, which fails</bdi> and <bdi>p, which passes</bdi></h1>", page)
+        self.assertIn("line 2 is the first that differs; 1 outcome differs", page)
+        self.assertNotIn("b", re.findall(r"#0 (\w+)", page))
 
 
 class SentenceTest(unittest.TestCase):

@@ -97,6 +97,42 @@ class Bounded(unittest.TestCase):
         self.assertEqual(made, shown([(False, Failure(ValueError("no"))), (True, 1)]))
 
 
+class Order:
+    """A small object."""
+
+    def __init__(self, number: int, town: str) -> None:
+        self.number = number
+        self.town = town
+
+
+#: what objects were asked for that note it
+asked: List[str] = []
+
+
+class Nosy:
+    """Notes each attribute that it is asked for, and its text."""
+
+    def __init__(self) -> None:
+        object.__setattr__(self, "number", 1)
+
+    def __getattribute__(self, name: str) -> Any:
+        asked.append(name)
+        return object.__getattribute__(self, name)
+
+    def __repr__(self) -> str:
+        asked.append("repr")
+        return ""
+
+
+class HidesState:
+    """An object whose attributes are worked out by code of its own."""
+
+    @property
+    def __dict__(self) -> Any:  # type: ignore[override]
+        asked.append("__dict__")
+        return {}
+
+
 class Objects(unittest.TestCase):
     """Objects that no script has."""
 
@@ -119,6 +155,57 @@ class Objects(unittest.TestCase):
         del thing
         gc.collect()
         self.assertIsNone(gone())
+
+    def test_a_small_dict_is_a_text(self) -> None:
+        for value, text in (
+            ({}, "<dict {}>"),
+            ({"item": "tea", "count": 2, None: [1, (True, 1.5)]}, "<dict {'item': 'tea', 'count': 2, None: [1, [True, <float 1.5>]]}>"),
+            ({"a": {"b": {"c": {"d": {}}}}}, "<dict {'a': <dict {'b': <dict {'c': <dict {'d': <dict>}>}>}>}>"),
+            ({"password": "hunter2", "user": "ann"}, "<dict {'password': <secret_1>, 'user': 'ann'}>"),
+            ({"one": Thing()}, "<dict {'one': <Thing>}>"),
+        ):
+            self.assertEqual(values(SECRETS).shown(value), text)
+        self.assertRegex(str(shown({number: number for number in range(11)})), "^<dict of 11, [0-9a-f]{8}>$")
+        self.assertRegex(str(shown({"x": "y" * 150})), "^<dict of 1, [0-9a-f]{8}>$")
+        self.assertRegex(str(values(ALL).shown({"x": 1})), "^<dict of 1, [0-9a-f]{8}>$")
+
+    def test_a_dict_has_the_same_text_whether_what_it_holds_has_a_number_or_not(self) -> None:
+        says, thing = values(), Thing()
+        held = {"a": thing}
+        before = says.shown(held)
+        says.shown(thing)
+        self.assertEqual(says.shown(held), before)
+
+    def test_a_small_object_has_its_attributes_as_they_are_first(self) -> None:
+        says, order = values(), Order(3, "Bath")
+        self.assertEqual(says.shown(order), "<Order 1 number=3, town='Bath'>")
+        order.town = "York"
+        self.assertEqual(says.shown([order]), ["<Order 1 number=3, town='Bath'>"])
+        order.password = "hunter2 x"  # type: ignore[attr-defined]
+        self.assertEqual(values(SECRETS).shown(order), "<Order 1 number=3, town='York', password=<secret_1>>")
+        order.more = [1]  # type: ignore[attr-defined]
+        self.assertEqual(values().shown(order), "<Order 1>")
+        self.assertEqual(values(ALL).shown(Order(3, "Bath")), "<Order 1>")
+
+    def test_none_of_an_object_s_code_is_called_for_them(self) -> None:
+        self.assertEqual([shown(one) for one in (Nosy(), HidesState())], ["<Nosy 1 number=1>", "<HidesState 1>"])
+        self.assertEqual(asked, ["__class__"])  # (Twisted asks for it, too)
+
+    def test_an_argument_is_hidden_by_its_name(self) -> None:
+        says, thing = values(SECRETS), Thing()
+        for name, value, text in (
+            ("amount", 9, 9),
+            ("password", "hunter2", "<secret_1>"),
+            ("password", "hunter2", "<secret_1>"),
+            ("lines", [("tea", 2)], [["tea", 2]]),
+            ("thing", thing, "<Thing>"),
+            ("data", b"x" * 10_000, says.argument("data", b"x" * 10_000)),
+        ):
+            self.assertEqual(says.argument(name, value), text)
+        self.assertLess(len(str(says.argument("text", "x" * 100_000))), 200)
+        says.shown(thing)
+        self.assertEqual(says.argument("thing", thing), "<Thing 1>")
+        self.assertEqual(values(ALL).argument("amount", 9), "value_1")
 
     def test_what_says_that_it_is_something_else(self) -> None:
         self.assertRegex(shown(mock.Mock(spec=list)), r"^<Mock 1>$")

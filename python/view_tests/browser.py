@@ -2,8 +2,10 @@
 
 from __future__ import annotations
 
+import atexit
 import base64
 import fcntl
+import functools
 import json
 import os
 import select
@@ -26,8 +28,6 @@ _FLAGS = (
     "--remote-debugging-pipe",
 )
 _SECONDS = 60
-
-_IS_DRAWING = "document.querySelector('#drawing:not([data-failed])') !== null"
 
 Json = Dict[str, Any]
 
@@ -69,6 +69,14 @@ def _seconds(process: int) -> float:
     """How many seconds of the processor the main thread of a process has taken."""
     stat = _stat(f"{process}/task/{process}")
     return sum(map(int, stat[11:13])) / os.sysconf("SC_CLK_TCK")
+
+
+@functools.lru_cache(maxsize=None)
+def shared() -> "Browser":
+    """The one browser of all tests of a process, which it ends with."""
+    browser = Browser()
+    atexit.register(browser.close)
+    return browser
 
 
 class Browser:
@@ -169,7 +177,7 @@ class Browser:
         self._call("Emulation.setScriptExecutionDisabled", value=not on)
 
     def open(self, path: Path, fragment: str = "") -> float:
-        """Opens a file, waits until it is there, and has drawn itself, and tells how many seconds that took."""
+        """Opens a file, waits until it is there, and tells how many seconds that took."""
         if fragment:  # (another fragment alone wouldn't load the page again)
             self._go("about:blank")
         return self._go(path.resolve().as_uri() + fragment)
@@ -182,8 +190,6 @@ class Browser:
             if time.monotonic() - begun > _SECONDS:
                 raise Broken(f"{address} isn't there after {_SECONDS} seconds")
             self.events.append(self._next())
-        while self.ask(_IS_DRAWING) and time.monotonic() - begun < _SECONDS:
-            time.sleep(0.02)
         return time.monotonic() - begun
 
     def busy(self) -> float:
@@ -198,6 +204,10 @@ class Browser:
         if "exceptionDetails" in answer:
             raise Broken(json.dumps(answer["exceptionDetails"])[:500])
         return answer["result"].get("value")
+
+    def forget(self) -> None:
+        """Empties the history: one of 50 steps is full, and then a step that no click has made may be dropped."""
+        self._call("Page.resetNavigationHistory")
 
     def settle(self) -> None:
         """Waits until what is seen is drawn."""

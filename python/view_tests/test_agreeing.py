@@ -36,7 +36,8 @@ class Agreeing(unittest.TestCase):
     """What is found."""
 
     def test_what_the_program_has_told(self) -> None:
-        for path in sorted((Path(__file__).resolve().parent / "data").glob("*.jsonl")):
+        data = Path(__file__).resolve().parent / "data"
+        for path in [*sorted(data.glob("*.jsonl")), *sorted((data / "agreeing").glob("*.jsonl"))]:
             found = agreement(read_facts(path.read_text(encoding="utf-8")))
             self.assertEqual(found.differences, [], path.name)
 

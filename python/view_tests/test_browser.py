@@ -8,27 +8,24 @@ import re
 import tempfile
 import unittest
 from pathlib import Path
-from typing import Any, Dict, Iterator, List, Optional, Tuple
+from typing import Any, Dict, Iterator, List, Tuple
 from unittest import mock
 
 from deferreds.view import texts
-from deferreds.view.layout import SLOT
-from deferreds.view.long_pages import MOST_PLAIN, Packed, known_of, page_that_draws
-from deferreds.view.page import NARROW
-from deferreds.view.pages import written_page
+from deferreds.view.page import MOST_PLAIN, NARROW, written_page
 from deferreds.view.run import Run
-from deferreds.view.sizes import AT_A_TIME
-from deferreds.view.texts import Html, clipped, shortened, visible
+from deferreds.view.stories import Does
+from deferreds.view.texts import Html, shortened, visible
 
 from . import samples
-from .browser import Browser, found
+from .browser import Browser, found, shared
 
 _GROUNDS = ("page", "stripe", "chosen", "band")
 _COLORS = ("text", "dim", "ok", "fail", "wait", "run", "paused", "unfired", "cancel")
 _ON_OWN = (("ok", "okground"), ("fail", "failground"), ("wait", "waitground"), ("dim", "noteground"))
 
-#: what is drawn of the whole page, whatever is in sight
-_ALL = "document.querySelectorAll('.chunk').forEach(chunk => { chunk.style.contentVisibility = 'visible'; });"
+#: how high a row is
+SLOT = 20
 
 _OVERLAPS = """(() => { const found = [];
 for (const svg of document.querySelectorAll('.chunk > svg, .head > svg')) {
@@ -63,8 +60,12 @@ _WIDE = """(() => { const out = []; for (const element of document.querySelector
   if (box.width && (box.right > innerWidth + 0.5 || box.left < -0.5)) out.push(element.outerHTML.slice(0, 80)); }
 return out; })()"""
 
-_DEAD = """[...document.querySelectorAll('a[href]')].filter(link => !document.getElementById(link.getAttribute('href').slice(1)))
-.map(link => link.outerHTML.slice(0, 80))"""
+# links that lead neither to a part of the page, nor to a row that is drawn, nor to a Deferred of the data, nor to a file
+_DEAD = """(() => { const data = JSON.parse(document.getElementById('data').textContent), numbers = new Set(data.deferreds.map(one => one[0]));
+return [...document.querySelectorAll('a[href]')].filter(link => { const [name, number] = link.getAttribute('href').slice(1).split('=');
+  if (name === 'row') return !(data.first < number && number <= data.first + data.kinds.length);
+  if (name === 'd') return !numbers.has(Number(number));
+  return link.target !== '_top' && name !== 'find' && !document.getElementById(name); }).map(link => link.outerHTML.slice(0, 80)); })()"""
 
 
 def contrast(one: str, other: str) -> float:
@@ -91,8 +92,7 @@ class InBrowser(unittest.TestCase):
     def setUpClass(cls) -> None:
         if found() is None:
             raise unittest.SkipTest("no Chromium is here; python/view_ci installs one")
-        cls.browser = Browser()
-        cls.addClassCleanup(cls.browser.close)
+        cls.browser = shared()
         folder = tempfile.TemporaryDirectory()
         cls.addClassCleanup(folder.cleanup)
         cls.path = Path(folder.name, "page.html")
@@ -109,14 +109,17 @@ class InBrowser(unittest.TestCase):
         self.path.write_text(written_page(run), encoding="utf-8")
         return self.browser.open(self.path, fragment)
 
-    def show_drawn(self, told: samples.Text, fragment: str = "", most: int = AT_A_TIME, first: Optional[int] = None, last: Optional[int] = None) -> float:
-        """Opens the page of a run that draws itself, in windows of so many lines."""
-        rows = told.run().fold.rows
-        with mock.patch("deferreds.view.long_pages.AT_A_TIME", most):
-            packed = Packed(known_of(told.source, first, last))
-        packed.take(told.text.encode("utf-8"))
-        self.path.write_bytes(page_that_draws(told.source.title, packed, len(rows), [row.entry.line for row in rows[:MOST_PLAIN]]))
-        return self.browser.open(self.path, fragment)
+    def show_all(self, run: Run, fragment: str = "", width: int = 1360) -> None:
+        """Opens the page of a run on a screen that is as high as the page, so that all rows are drawn."""
+        self.browser.resize(width, 1000)
+        self.show(run, fragment)
+        self.show_rows(width)
+
+    def show_rows(self, width: int = 1360) -> None:
+        """Makes the screen as high as the page."""
+        for _ in range(2):  # (the height of the page grows by what is drawn)
+            self.browser.resize(width, 100 + self.asked("document.documentElement.scrollHeight"))
+            self.browser.settle()
 
     def asked(self, expression: str) -> Any:
         """What JavaScript says."""
@@ -209,16 +212,13 @@ class Hostile(InBrowser):
         self.assertEqual(self._harm(), [])
 
     def test_they_are_shown_as_they_are(self) -> None:
-        self.show(samples.hostile())
+        self.show_all(samples.hostile())
         notes = self.asked(
             "[...document.querySelectorAll('.row .k-note')].map(word => word.parentElement.querySelector('bdi').textContent)"
         )
         written = [json.dumps(text, ensure_ascii=False) for text in samples.HOSTILE]
-        self.assertEqual(notes, [visible(shortened(text, 300)) for text in written])
+        self.assertEqual(notes, [visible(shortened(f"note {text}", 1000))[5:] for text in written])
         self.assertEqual(self.asked("document.title"), visible("".join(samples.HOSTILE[:8])))
-        titles = self.asked("[...document.querySelectorAll('.row[id][title]')].map(row => row.title)")
-        lines = [row.entry.line for row in samples.hostile().fold.rows]
-        self.assertEqual(titles, [visible(clipped(line, 1000)) for line in lines if len(line) > 60])
 
     def test_without_the_escaping_it_would_be_seen(self) -> None:
         with mock.patch("deferreds.view.markup.escaped", Html), mock.patch("deferreds.view.page.escaped", Html):
@@ -252,8 +252,7 @@ class Geometry(InBrowser):
     def test_of_all_kinds_of_runs(self) -> None:
         arrows = 0
         for sample in self._runs():
-            self.show(sample.run)
-            self.asked(_ALL)
+            self.show_all(sample.run)
             self.assertEqual(
                 self.asked(_ROWS), [], f"{sample.name}: rows are {SLOT} px high and in place"
             )
@@ -280,6 +279,7 @@ class Geometry(InBrowser):
                 self.assertEqual(self.asked(_WIDE), [], f"{run.title[:20]} at {width} px")
                 self.asked("scrollTo(100000, document.getElementById('chart').offsetTop)")
                 self.browser.settle()
+                self.browser.settle()
                 wide = self.asked("document.getElementById('chart').getBoundingClientRect().width")
                 self.assertEqual(self.asked("scrollX"), max(0, wide - width))
                 sides = "[...document.querySelectorAll('main, .side, .what')].map(part => Math.round(part.getBoundingClientRect().left))"
@@ -287,9 +287,6 @@ class Geometry(InBrowser):
                 side = self.asked("document.querySelector('.side').getBoundingClientRect().width")
                 self.assertLessEqual(side, width if width <= NARROW else 0.621 * width)
                 self.assertEqual(self.asked("document.scrollingElement.scrollWidth"), max(width, wide))
-
-    def test_a_page_of_five_thousand_lines_is_there_in_a_second(self) -> None:
-        self.assertLess(min(self.show(samples.long(5_000)) for _ in range(5)), 1.0)
 
 
 class Focus(InBrowser):
@@ -300,39 +297,47 @@ class Focus(InBrowser):
         return rows
 
     def _named(self, number: int) -> List[str]:
-        rows: List[str] = self.asked(
-            f"[...document.querySelectorAll('.row[data-d~=\"{number}\"]')].map(row => row.id)"
-        )
-        return rows
+        """The rows that touch a Deferred, by their ids."""
+        return [f"r{row.place + 1}" for row in samples.recorded().fold.rows if number in row.names]
+
+    def _choose(self, number: int) -> None:
+        """Clicks a Deferred in the chart, and waits until its rows look so."""
+        self.asked(f"document.querySelector('#chart [data-f=\"{number}\"]').click()")
+        self.browser.settle()
 
     def test_a_click_chooses_and_escape_ends_it(self) -> None:
-        self.show(samples.recorded())
-        self.browser.click("#chart [data-f='1']")
+        self.show_all(samples.recorded())
+        self._choose(1)
         self.assertEqual(self._on(), self._named(1))
         self.assertTrue(self._on())
         self.assertTrue(self.asked("document.getElementById('focus').textContent.startsWith('#1:')"))
-        faded = "[...document.querySelectorAll('.row:not(.on), .lane:not(.on), .arrow:not(.on)')].every(part => getComputedStyle(part).opacity < 0.5)"
+        stories = samples.recorded().stories.of
+        awaited = {number: {step.other for step in steps if step.does in (Does.WAITS, Does.CHILD, Does.CHAIN)} for number, steps in stories.items()}
+        near = awaited[1] | {number for number, others in awaited.items() if 1 in others}
+        rows = [f"r{row.place + 1}" for row in samples.recorded().fold.rows if near.intersection(row.names)]
+        self.assertTrue(rows)
+        self.assertEqual(self.asked("[...document.querySelectorAll('.row.by')].map(row => row.id)"), rows)
+        rest = ":not(.on):not(.by)"
+        faded = f"[...document.querySelectorAll('.row{rest}, .lane{rest}, .arrow{rest}')].every(part => getComputedStyle(part).opacity < 0.5)"
         clear = (
-            "[...document.querySelectorAll('.on')].every(part => getComputedStyle(part).opacity >= 0.4)"
+            "[...document.querySelectorAll('.on, .by')].every(part => getComputedStyle(part).opacity >= 0.4)"
         )
         self.assertTrue(self.asked(faded) and self.asked(clear))
         self.browser.press("Escape")
         self.assertEqual(self._on(), [])
         self.assertTrue(
-            self.asked(
-                "document.getElementById('focus').hidden && document.getElementById('column').hidden"
-            )
+            self.asked("document.getElementById('focus').hidden && document.querySelector('.column') === null")
         )
 
     def test_a_second_click_ends_it_too(self) -> None:
-        self.show(samples.recorded())
+        self.show_all(samples.recorded())
         for expected in (True, False):
-            self.browser.click("#chart [data-f='0']")
+            self._choose(0)
             self.assertEqual(bool(self._on()), expected)
 
     def test_n_and_p_go_to_the_next_row_and_back(self) -> None:
         self.show(samples.recorded())
-        self.asked("document.querySelector('#chart [data-f=\"0\"]').click()")
+        self._choose(0)
         self.asked("document.getElementById('r1').scrollIntoView({block: 'center'})")
         tops = []
         for key in ("n", "n", "n", "p", "p"):
@@ -343,19 +348,42 @@ class Focus(InBrowser):
         self.assertEqual(tops[3:], [tops[1], tops[0]])
 
     def test_by_the_keyboard_alone(self) -> None:
-        self.show(samples.recorded())
-        self.asked("document.querySelector('#chart [data-f=\"2\"]').focus()")
-        self.assertTrue(self.asked("document.activeElement.matches('[data-f]')"))
+        self.show_all(samples.recorded())
+        self.browser.press("Tab")
+        self.assertEqual(self.asked("document.activeElement.id"), "skip")
         self.browser.press("Enter")
-        self.assertEqual(self._on(), self._named(2))
-        self.browser.press("Escape")
+        self.assertEqual(self.asked("document.activeElement.id"), "chart")
+        self.browser.press("Home")
+        for _ in range(8):
+            self.browser.press("ArrowDown")
+        self.assertEqual(self.asked("document.getElementById('chart').getAttribute('aria-activedescendant')"), "r9")
+        first = samples.recorded().fold.rows[8].names
+        for number in first:
+            self.browser.press("Enter")
+            self.assertEqual(self._on(), self._named(number))
+        self.browser.press("Enter")
         self.assertEqual(self._on(), [])
+        for key, row in (("End", 276), ("ArrowUp", 275), ("Home", 1), ("ArrowUp", 1)):
+            self.browser.press(key)
+            self.assertEqual(self.asked("document.querySelector('.row.here').id"), f"r{row}")
+        self.browser.press("Escape")
+        self.assertEqual(self.asked("document.querySelectorAll('.row.here').length"), 0)
+
+    def test_rows_are_rows_for_who_hears_them(self) -> None:
+        run = samples.recorded()
+        self.show_all(run)
+        grid = "['role', 'aria-rowcount', 'tabindex'].map(name => document.getElementById('chart').getAttribute(name))"
+        self.assertEqual(self.asked(grid), ["grid", str(len(run.fold.rows)), "0"])
+        rows = "[...document.querySelectorAll('.row[id]')].map(row => [row.getAttribute('role'), Number(row.getAttribute('aria-rowindex'))])"
+        self.assertEqual(self.asked(rows), [["row", number] for number in range(1, len(run.fold.rows) + 1)])
+        loose = "[...document.querySelectorAll('.row[role] > *')].filter(part => part.tagName !== 'I' && part.className !== 'x' && part.getAttribute('role') !== 'gridcell').length"
+        self.assertEqual(self.asked(loose), 0)
 
     def test_the_column_stands_behind_the_lane(self) -> None:
-        self.show(samples.recorded())
-        self.asked("document.querySelector('#chart [data-f=\"3\"]').click()")
+        self.show_all(samples.recorded())
+        self._choose(3)
         places = self.asked(
-            "['#column', '[data-x][data-d=\"3\"] circle'].map(name => document.querySelector(name).getBoundingClientRect())"
+            "['.column', '[data-x][data-d=\"3\"] circle'].map(name => document.querySelector(name).getBoundingClientRect())"
             ".map(box => (box.left + box.right) / 2)"
         )
         self.assertAlmostEqual(places[0], places[1], delta=1)
@@ -365,7 +393,7 @@ class Find(InBrowser):
     """A text is looked for in rows and outcomes: by name, value, kind of line or outcome."""
 
     def find(self, text: str) -> List[str]:
-        """Looks for a text by the keys, and tells the rows that stay."""
+        """Looks for a text by the keys, and returns the rows that stay."""
         self.browser.press("/")
         self.asked(
             f"(() => {{ const find = document.getElementById('find'); find.value = {json.dumps(text)};"
@@ -376,8 +404,8 @@ class Find(InBrowser):
 
     def test_by_name_value_kind_and_outcome(self) -> None:
         run = samples.recorded()
-        self.show(run)
-        self.assertTrue(self.asked("document.getElementById('find').hidden"))
+        self.show_all(run)
+        self.assertTrue(self.asked("document.getElementById('search').hidden"))
         lines = [row.entry.line for row in run.fold.rows]
         waits = [f"r{place + 1}" for place, line in enumerate(lines) if "wait" in line]
         found = self.find("WAIT ")
@@ -386,7 +414,9 @@ class Find(InBrowser):
         self.assertLessEqual(set(found), set(waits))
         some = next(record for record in run.fold.records.values() if record.name)
         self.assertIn(f"r{some.row + 1}", self.find(some.name))
-        self.assertIn("lines have", self.asked("document.getElementById('focus').textContent"))
+        self.assertRegex(self.asked("document.getElementById('found').textContent"), r"^\d+ lines$")
+        self.asked("document.getElementById('good').open = true")
+        self.browser.settle()
         self.find("✓ ok")
         shown = "[...document.querySelectorAll('.ends tr[data-d]')].filter(row => getComputedStyle(row).display !== 'none').length"
         good = sum(record.end.startswith("ok ") for record in run.fold.records.values())
@@ -396,24 +426,37 @@ class Find(InBrowser):
         self.browser.press("Escape")
         self.assertEqual(self.asked("document.querySelectorAll('.hit').length"), 0)
         self.assertEqual(self.asked(shown), len(run.fold.records))
-        self.assertTrue(self.asked("document.getElementById('find').hidden && document.getElementById('focus').hidden"))
+        self.assertTrue(self.asked("document.getElementById('search').hidden && document.getElementById('focus').hidden"))
+
+    def test_it_says_which_of_how_many_and_goes_round(self) -> None:
+        run = samples.recorded()
+        self.show(run)
+        count = len(self.find("new #")) and sum("new #" in row.entry.line for row in run.fold.rows)
+        found = "document.getElementById('found').textContent"
+        self.assertEqual(self.asked(found), f"{count} lines")
+        said = []
+        for name in ("next", "next", "previous", "previous"):
+            self.asked(f"[...document.querySelectorAll('#search button')].find(button => button.textContent === '{name}').click()")
+            said.append(self.asked(found))
+        self.assertEqual(said, [f"1 of {count}", f"2 of {count}", f"1 of {count}", f"{count} of {count}"])
+        row = [row.place for row in run.fold.rows if "new #" in row.entry.line][-1]
+        self.assertEqual(self.asked("document.querySelector('.row.here').id"), f"r{row + 1}")
+        self.assertTrue(0 < self.asked("document.querySelector('.row.here').getBoundingClientRect().top") < 1000)
 
     def test_keys_go_from_one_to_the_next(self) -> None:
-        self.show(samples.recorded())
-        self.assertGreater(len(self.find("new #")), 3)
-        self.asked("document.getElementById('r1').scrollIntoView({block: 'center'})")
-        tops = []
-        for key in ("Enter", "Enter"):
+        run = samples.recorded()
+        self.show(run)
+        self.find("new #")
+        rows = [f"r{row.place + 1}" for row in run.fold.rows if "new #" in row.entry.line]
+        found = []
+        for key in ("Enter", "Enter", "Enter"):
             self.browser.press(key)
-            self.browser.settle()
-            tops.append(self.asked("scrollY"))
+            found.append(self.asked("document.querySelector('.row.here').id"))
         self.asked("document.getElementById('find').blur()")
         for key in ("n", "p", "p"):
             self.browser.press(key)
-            self.browser.settle()
-            tops.append(self.asked("scrollY"))
-        self.assertTrue(tops[0] < tops[1] < tops[2], tops)
-        self.assertEqual(tops[3:], [tops[1], tops[0]])
+            found.append(self.asked("document.querySelector('.row.here').id"))
+        self.assertEqual(found, [*rows[:4], rows[2], rows[1]])
 
     def test_the_link_asks_too_and_letters_are_letters_there(self) -> None:
         self.show(samples.recorded())
@@ -423,51 +466,52 @@ class Find(InBrowser):
         self.assertEqual(self.asked("document.getElementById('find').value"), "np/")
 
     def test_hostile_texts_are_looked_for_as_they_are(self) -> None:
-        self.show(samples.hostile())
+        self.show_all(samples.hostile())
         for text in samples.HOSTILE[:8]:
             shown = json.dumps(text, ensure_ascii=False)
             self.assertEqual(len(self.find(shown)), 4, text)
-            self.assertTrue(self.asked("document.getElementById('focus').textContent").startswith(f"4 lines have {shown}: "), text)
+            self.assertEqual(self.asked("document.getElementById('found').textContent"), "4 lines")
         self.assertEqual(self.trouble(), [])
         self.assertIsNone(self.asked("window.harm"))
-        self.assertTrue(self.asked("document.getElementById('focus').children.length === 0"))
+        self.assertTrue(self.asked("document.getElementById('found').children.length === 0"))
 
 
 class WithoutScripts(InBrowser):
-    """All but focus works where no script runs."""
+    """The report and the first lines show where no script runs."""
 
-    def test_rows_and_links(self) -> None:
+    def test_report_and_lines(self) -> None:
         self.browser.scripts(False)
-        self.show(samples.recorded(), "#r30")
-        shown: Tuple[float, str] = self.asked(
-            "(() => { const row = document.querySelector('.row:target'); return [row.getBoundingClientRect().top, row.id]; })()"
-        )
-        self.assertEqual(shown[1], "r30")
-        self.assertTrue(0 <= shown[0] < 1000)
+        for run in (samples.recorded(), samples.long(700), samples.hostile()):
+            self.show(run)
+            shown = [visible(shortened(row.entry.line, 200)) for row in run.fold.rows[:MOST_PLAIN]]
+            self.assertEqual(self.asked("document.querySelector('noscript pre').textContent"), "\n".join(shown))
+            self.assertTrue(self.asked("document.querySelector('noscript p').getBoundingClientRect().height > 0"))
+            self.assertTrue(self.asked("['chart', 'above', 'search'].every(id => document.getElementById(id).hidden)"))
+            self.assertIsNone(self.asked("window.harm"))
 
 
 class Paper(InBrowser):
     """The page as it is printed."""
 
-    def test_it_fits_the_paper(self) -> None:
-        target = self.path.with_suffix(".pdf")
-        for run in (samples.recorded(), samples.long(600)):
+    def test_it_fits_the_paper_and_is_bounded(self) -> None:
+        target, pages = self.path.with_suffix(".pdf"), []
+        for run in (samples.recorded(), samples.long(600), samples.long(20_000)):
             self.show(run)
             self.browser.print(target)
             data = target.read_bytes()
             widths = {float(box.split()[2]) for box in re.findall(rb"/MediaBox \[([^\]]*)\]", data)}
             self.assertEqual(len(widths), 1)
-            self.assertGreaterEqual(
-                widths.pop() / 0.75 + 1, self.asked("document.getElementById('chart').offsetWidth")
-            )
-            self.assertGreaterEqual(data.count(b"/Type /Page\n") + data.count(b"/Type /Page "), 2)
+            self.assertGreaterEqual(widths.pop() / 0.75 + 1, self.asked("document.getElementById('chart').offsetWidth"))
+            pages.append(data.count(b"/Type /Page\n") + data.count(b"/Type /Page "))
+        self.assertGreaterEqual(pages[0], 2)
+        self.assertLess(max(pages), 40)
 
     def test_what_is_only_for_a_screen_isn_t_printed(self) -> None:
         self.browser.look(printed=True)
         self.show(samples.recorded())
         self.assertEqual(
             self.asked(
-                "['.head', '#focus', '#find', 'nav'].map(name => getComputedStyle(document.querySelector(name)).display)"
+                "['.head', '#focus', '#search', 'nav'].map(name => getComputedStyle(document.querySelector(name)).display)"
             ),
             ["none"] * 4,
         )

@@ -12,7 +12,7 @@ from deferreds.view.run import Run
 from . import samples
 from .test_browser import InBrowser
 from .test_browser_folds import recorded
-from .test_browser_trees import CUT_ARROWS, LINES, UNEVEN
+from .test_browser_trees import ARROWS, LINES, UNEVEN
 
 _ENDS = "[...document.querySelectorAll('.ends tr[data-d]')].filter(row => getComputedStyle(row).display !== 'none').map(row => Number(row.dataset.d))"
 
@@ -29,6 +29,7 @@ class Filter(InBrowser):
             f"document.querySelectorAll('#sieve input').forEach(box => {{ if (box.name === '{group}'"
             f" && box.checked !== {json.dumps(values)}.includes(box.value)) box.click(); }})"
         )
+        self.show_rows()
 
     def said(self) -> str:
         """What is said of the filter."""
@@ -66,18 +67,19 @@ class Filter(InBrowser):
         self.show(run)
         self.choose("kind", "note")
         events = {run.fold.rows[place].event for place in self.places(run, "note")}
-        heads = self.asked("[...document.querySelectorAll('.row.ev:not([hidden]) .t')].map(head => Number(head.textContent.split(' ')[1]))")
+        heads = self.asked("[...document.querySelectorAll('.row.ev .t')].map(head => Number(head.textContent.split(' ')[1]))")
         self.assertLessEqual(set(heads), events)
 
     def test_with_a_tree_both_hold_and_all_is_shown_again(self) -> None:
         run = samples.recorded()
-        self.show(run, "#d=6")
+        self.show_all(run, "#d=6")
         tree = set(self.asked(LINES))
         self.choose("kind", "fire")
         self.assertEqual(set(self.asked(LINES)), tree & set(self.places(run, "fire")))
         self.asked("document.querySelector('#sieve .act').click()")
         self.assertEqual(set(self.asked(LINES)), tree)
         self.browser.press("Escape")
+        self.show_rows()
         self.assertEqual(len(self.asked(LINES)), len(run.fold.rows))
         self.assertNotIn("hides", self.said())
 
@@ -94,10 +96,7 @@ class Filter(InBrowser):
         for sample in [*samples.told_by_the_program(), samples.Sample("recorded", samples.recorded())]:
             self.show(sample.run)
             self.choose("kind", "fire", "hand", "wait", "cancel", "advance")
-            self.asked("document.getElementById('chart').scrollIntoView()")
-            self.browser.settle()
-            self.browser.settle()
-            found = self.asked(CUT_ARROWS)
+            found = self.asked(ARROWS)
             self.assertTrue(all(found), sample.name)
             arrows += found
             self.assertEqual(self.asked(UNEVEN), 0, sample.name)
@@ -110,12 +109,6 @@ class Filter(InBrowser):
         self.assertEqual(len(self.asked(LINES)), len(samples.HOSTILE))
         self.assertIsNone(self.asked("window.harm"))
         self.assertEqual(self.trouble(), [])
-
-    def test_without_scripts_there_is_none(self) -> None:
-        self.browser.scripts(False)
-        self.show(samples.recorded())
-        self.assertTrue(self.asked("document.getElementById('sieve').hidden"))
-        self.assertEqual(len(self.asked(LINES)), 276)
 
 
 if __name__ == "__main__":

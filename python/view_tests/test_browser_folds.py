@@ -11,7 +11,7 @@ from deferreds.view.texts import visible
 
 from . import samples
 from .test_browser import InBrowser
-from .test_browser_trees import CUT_ARROWS, LINES, UNEVEN
+from .test_browser_trees import ARROWS, LINES, UNEVEN
 from .test_folding import of, polling
 
 
@@ -26,6 +26,7 @@ class Folds(InBrowser):
 
     def lines(self) -> int:
         """How many lines are shown."""
+        self.show_rows()
         shown: List[int] = self.asked(LINES)
         return len(shown)
 
@@ -58,11 +59,8 @@ class Folds(InBrowser):
     def test_pictures_stand_beside_their_rows(self) -> None:
         arrows: List[bool] = []
         for sample in [*samples.told_by_the_program(), samples.Sample("recorded", samples.recorded()), samples.Sample("long", samples.long(300))]:
-            self.show(recorded(sample.run))
-            self.asked("document.getElementById('chart').scrollIntoView()")
-            self.browser.settle()
-            self.browser.settle()
-            found = self.asked(CUT_ARROWS)
+            self.show_all(recorded(sample.run))
+            found = self.asked(ARROWS)
             self.assertTrue(all(found), sample.name)
             arrows += found
             self.assertEqual(self.asked(UNEVEN), 0, sample.name)
@@ -70,11 +68,13 @@ class Folds(InBrowser):
         self.assertGreater(len(arrows), 20)
 
     def test_what_leads_to_a_hidden_row_opens_it(self) -> None:
-        self.show(recorded(samples.recorded()), "#r6")
+        self.show(recorded(samples.recorded()), "#row=6")
         self.assertIn(5, self.asked(LINES))
         self.assertTrue(0 < self.asked("document.getElementById('r6').getBoundingClientRect().top") < 1000)
         self.show(recorded(samples.recorded()))
         self.assertNotIn(3, self.asked(LINES))
+        self.asked("scrollTo(0, 300)")
+        self.browser.settle()
         before = self.asked("document.querySelector('#chart [data-f=\"1\"]').getBoundingClientRect().top")
         self.asked("document.querySelector('#chart [data-f=\"1\"]').click()")
         after = self.asked("document.querySelector('#chart [data-f=\"1\"]').getBoundingClientRect().top")
@@ -91,15 +91,9 @@ class Folds(InBrowser):
         self.browser.press("Escape")
         self.assertEqual(self.lines(), few)
         self.show(run, "#d=1")
+        self.show_rows()
         named = {step.row for step in run.stories.of[1]}
         self.assertLessEqual(named, set(self.asked(LINES)))
-
-    def test_without_scripts_all_rows_show(self) -> None:
-        self.browser.scripts(False)
-        run = recorded(of(polling(40)))
-        self.show(run)
-        self.assertEqual(self.lines(), len(run.fold.rows))
-        self.assertTrue(self.asked("document.getElementById('folds').hidden && !document.querySelector('.fold')"))
 
     def test_hostile_texts_in_turns_are_texts(self) -> None:
         lines = ["new #0 d"]
@@ -107,7 +101,7 @@ class Folds(InBrowser):
             said = json.dumps(text, ensure_ascii=False)
             lines += ["advance 5", "turn poll", f"note {said}", "fire #0 fail E " + said] * 4 + ['note "between"']
         run = recorded(of(lines))
-        self.show(run)
+        self.show_all(run)
         self.assertEqual(self.asked("document.querySelectorAll('.fold').length"), len(samples.HOSTILE))
         self.assertEqual(set(self.asked("[...document.querySelectorAll('.fold')].map(fold => fold.textContent)")), {"▸ turn poll, 3 times: 10 lines"})
         self.assertLess(self.lines(), len(run.fold.rows))
@@ -118,7 +112,7 @@ class Folds(InBrowser):
         # (a line of no known form isn't a turn, whatever it looks like)
         for text in samples.HOSTILE[:8]:
             run = recorded(of(["new #0 d", *["advance 1", f"turn {text}", "fire #0 ok 1"] * 4]))
-            self.show(run)
+            self.show_all(run)
             self.assertIn(visible(f"turn {text}"), self.asked("document.getElementById('chart').textContent"))
             self.assertIsNone(self.asked("window.harm"))
 

@@ -23,15 +23,13 @@ class Narrow(InBrowser):
 
     def test_lines_have_the_whole_width(self) -> None:
         self.browser.resize(400, 900)
-        for scripts in (True, False):
-            self.browser.scripts(scripts)
-            self.show(samples.recorded())
-            shown = "[...document.querySelectorAll('.chunk > svg, .head > svg, .legend')].filter(part => getComputedStyle(part).display !== 'none').length"
-            self.assertEqual(self.asked(shown), 0)
-            self.assertEqual(self.asked("document.querySelector('.side').getBoundingClientRect().width"), 400)
-            self.assertEqual(self.asked("document.scrollingElement.scrollWidth"), 400)
-            room = "[...document.querySelectorAll('.row[id]')].map(row => 400 - row.querySelector('.t').getBoundingClientRect().left).reduce((a, b) => Math.max(a, b))"
-            self.assertGreater(self.asked(room), 280)
+        self.show(samples.recorded())
+        shown = "[...document.querySelectorAll('.chunk > svg, .head > svg, .legend')].filter(part => getComputedStyle(part).display !== 'none').length"
+        self.assertEqual(self.asked(shown), 0)
+        self.assertEqual(self.asked("document.querySelector('.side').getBoundingClientRect().width"), 400)
+        self.assertEqual(self.asked("document.scrollingElement.scrollWidth"), 400)
+        room = "[...document.querySelectorAll('.row[id]')].map(row => 400 - row.querySelector('.t').getBoundingClientRect().left).reduce((a, b) => Math.max(a, b))"
+        self.assertGreater(self.asked(room), 280)
 
     def test_lanes_are_shown_where_that_is_wanted(self) -> None:
         self.browser.resize(400, 900)
@@ -71,19 +69,16 @@ class Whole(InBrowser):
         for sample in [*samples.told_by_the_program(), samples.Sample("hostile", samples.hostile())]:
             if sample.name == "two_callers":
                 sample.run.places = Places({}, {f"/events/{event}": Place("/a/file_with_a_long_name.py", 12) for event in range(20)})
-            self.show(sample.run)
+            self.show_all(sample.run, width=1400)
             self.assertEqual(self.asked(_CUT), [], sample.name)
 
     def test_a_touch_shows_the_line_and_what_is_behind_it(self) -> None:
-        self.browser.resize(400, 900)
         run = samples.recorded()
-        self.show(run)
+        self.show_all(run, width=400)
         for place in (5, 54, 90):
             row = run.fold.rows[place - 1]
             said = self.touch(f"#r{place} .t")
-            line = said if len(row.entry.line) <= 60 else said.split("   ")[0]
-            for word in row.entry.line.split(" "):
-                self.assertIn(word, line)
+            self.assertTrue(said.startswith(row.entry.line))
         self.assertIn("scheduled at line 9, due 1", self.touch("#r54 .t"))
         self.assertEqual(self.touch("#r54 .t"), "", "a second touch ends it")
         self.touch("#r5 .t")
@@ -92,7 +87,7 @@ class Whole(InBrowser):
 
     def test_hostile_events_are_texts(self) -> None:
         run = samples.hostile()
-        self.show(run)
+        self.show_all(run)
         count = self.asked("document.querySelectorAll('.row.ev').length")
         self.assertEqual(count, 2 * len(samples.HOSTILE))
         for event in range(count):
@@ -102,12 +97,12 @@ class Whole(InBrowser):
             expected = visible(shortened(compact(run.script.events[event]), 1_000))
             self.assertTrue(said == expected or said.startswith(f"event {event}  "), (said[:80], expected[:80]))
         self.assertIsNone(self.asked("window.harm"))
-        self.assertEqual(self.asked("document.getElementById('whole').children.length"), 0)
+        self.assertEqual(self.asked("document.querySelectorAll('#whole .text *').length"), 0)
         self.assertEqual(self.trouble(), [])
 
     def test_links_stay_links(self) -> None:
         self.show(samples.recorded())
-        self.browser.click("#chart [data-f='1']")
+        self.asked("document.querySelector('#chart [data-f=\"1\"]').click()")
         self.assertTrue(self.asked("document.getElementById('whole').hidden"))
 
 

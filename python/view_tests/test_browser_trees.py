@@ -13,26 +13,20 @@ from . import samples
 from .test_browser import InBrowser
 
 _BRANCHES = "[...document.querySelectorAll('#tree .branch')].map(branch => branch.dataset.s)"
-LINES = """[...document.querySelectorAll('.row[id]')].filter(row =>
-[row, row.closest('.chunk')].every(part => getComputedStyle(part).display !== 'none')).map(row => Number(row.id.slice(1)) - 1)"""
+# the rows that are drawn, by their places
+LINES = "[...document.querySelectorAll('.row[id]')].map(row => Number(row.id.slice(1)) - 1)"
 
-# each arrow that is seen: whether the row that stands beside it names whom it reaches
-CUT_ARROWS = """(() => { const found = [];
-for (const chunk of document.querySelectorAll('.chunk.cut:not(.gone)')) for (const part of chunk.querySelectorAll(':scope > .part > svg')) {
-  const top = part.parentNode.getBoundingClientRect().top + Number(part.getAttribute('y')), box = {top, bottom: top + Number(part.getAttribute('height'))};
-  for (const arrow of part.querySelectorAll('.arrow')) {
-    const place = arrow.getBoundingClientRect(), middle = (place.top + place.bottom) / 2;
-    if (middle < box.top || middle > box.bottom) continue;
-    const row = [...chunk.querySelectorAll('.row')].find(row => { const at = row.getBoundingClientRect(); return at.top < middle && middle < at.bottom; });
-    found.push(Boolean(row) && (row.dataset.d || '').split(' ').includes(arrow.dataset.to));
-  }
-} return found; })()"""
+# each arrow: whether the row that stands beside it names whom it reaches
+ARROWS = """[...document.querySelectorAll('.chunk .arrow')].map(arrow => {
+  const place = arrow.getBoundingClientRect(), middle = (place.top + place.bottom) / 2;
+  const row = [...arrow.closest('.chunk').querySelectorAll('.row')].find(row => { const at = row.getBoundingClientRect(); return at.top < middle && middle < at.bottom; });
+  return Boolean(row) && (row.dataset.d || '').split(' ').includes(arrow.dataset.to); })"""
 
-# chunks whose rows and pictures don't have one height
-UNEVEN = """[...document.querySelectorAll('.chunk:not(.gone)')].filter(chunk => {
-  const rows = [...chunk.querySelectorAll('.row:not([hidden])')].length * 20;
-  return [chunk, ...[...chunk.querySelectorAll(':scope > svg, :scope > .side > svg')].filter(svg => svg.getBoundingClientRect().height)]
-    .some(part => Math.abs(part.getBoundingClientRect().height - rows) > 0.6); }).length"""
+# parts whose rows and pictures don't have one height, or that don't stand below one another
+UNEVEN = """[...document.querySelectorAll('.chunk')].filter((chunk, place, every) => {
+  const rows = chunk.querySelectorAll('.row').length * 20, next = every[place + 1];
+  if (next && Math.abs(next.getBoundingClientRect().top - chunk.getBoundingClientRect().bottom) > 0.6) return true;
+  return [chunk, ...chunk.querySelectorAll(':scope > svg, :scope > .side > svg')].some(part => Math.abs(part.getBoundingClientRect().height - rows) > 0.6); }).length"""
 
 
 class Trees(InBrowser):
@@ -68,8 +62,7 @@ class Trees(InBrowser):
 
     def test_the_chart_shows_its_rows_alone(self) -> None:
         run = samples.recorded()
-        self.show(run, "#d=6")
-        self.browser.settle()
+        self.show_all(run, "#d=6")
         named = {row for one in run.stories.tree(6) for row in (one.step.row, one.step.end) if row is not None}
         shown = set(self.asked(LINES))
         self.assertLessEqual(named, shown)
@@ -80,6 +73,8 @@ class Trees(InBrowser):
         hidden = len(run.fold.rows) - len(shown)
         self.assertGreater(hidden, 100)
         self.assertIn(f"hides {hidden} lines", self.asked("document.getElementById('tree').textContent"))
+        self.browser.resize(1360, 1000)
+        self.show(run, "#d=6")
         top = self.asked("document.getElementById('tree').getBoundingClientRect().top")
         self.assertTrue(0 <= top < 100, top)
 
@@ -87,11 +82,8 @@ class Trees(InBrowser):
         arrows: List[bool] = []
         for sample in self._runs():
             number = max(sample.run.fold.records, key=lambda one: len(list(sample.run.stories.tree(one))))
-            self.show(sample.run, f"#d={number}")
-            self.asked("document.getElementById('chart').scrollIntoView()")
-            self.browser.settle()
-            self.browser.settle()
-            found = self.asked(CUT_ARROWS)
+            self.show_all(sample.run, f"#d={number}")
+            found = self.asked(ARROWS)
             self.assertTrue(all(found), f"{sample.name} #{number}: {found}")
             arrows += found
             self.assertEqual(self.asked(UNEVEN), 0, sample.name)
@@ -100,17 +92,18 @@ class Trees(InBrowser):
     def test_escape_and_a_link_end_it(self) -> None:
         run = samples.recorded()
         for way in ("Escape", "link"):
-            self.show(run, "#d=6")
+            self.show_all(run, "#d=6")
             if way == "link":
                 self.browser.click("#tree a[href='#what']")
             else:
                 self.browser.press("Escape")
+            self.assertTrue(self.asked("document.getElementById('tree').hidden && !location.hash.includes('d=')"))
+            self.show_rows()
             self.assertEqual(len(self.asked(LINES)), len(run.fold.rows))
-            self.assertTrue(self.asked("document.getElementById('tree').hidden && location.hash === ''"))
 
     def test_a_key_leads_there_and_links_to_others(self) -> None:
         self.show(samples.recorded())
-        self.browser.click("#chart [data-f='6']")
+        self.asked("document.querySelector('#chart [data-f=\"6\"]').click()")
         self.assertEqual(self.asked("document.querySelector('#focus a').getAttribute('href')"), "#d=6")
         self.browser.press("t")
         self.browser.settle()
@@ -121,19 +114,23 @@ class Trees(InBrowser):
 
     def test_a_link_to_a_row_that_is_hidden_shows_all_rows(self) -> None:
         run = samples.recorded()
-        self.show(run, "#d=6")
+        self.show_all(run, "#d=6")
         shown = self.asked(LINES)
-        self.asked(f"new Promise(done => {{ addEventListener('hashchange', () => done(0), {{once: true}}); location.hash = 'r{shown[-1] + 1}'; }})")
+        self.asked("[...document.querySelectorAll('#tree .branch a')].find(link => link.getAttribute('href').startsWith('#row=')).click()")
         self.assertEqual(self.asked(LINES), shown, "a row that is shown changes nothing")
-        self.asked("new Promise(done => { addEventListener('hashchange', () => done(0), {once: true}); location.hash = 'r276'; })")
-        self.browser.settle()
+        self.asked("(() => { const link = document.querySelector('#tree .branch a[href^=\"#row=\"]'); link.href = '#row=276'; link.click(); })()")
+        self.show_rows()
         self.assertEqual(len(self.asked(LINES)), len(run.fold.rows))
+        self.browser.resize(1360, 1000)
+        self.show(run, "#d=6")
+        self.asked("(() => { const link = document.querySelector('#tree .branch a[href^=\"#row=\"]'); link.href = '#row=276'; link.click(); })()")
+        self.browser.settle()
         self.assertTrue(0 < self.asked("document.getElementById('r276').getBoundingClientRect().top") < 1000)
 
     def test_what_is_no_number_changes_nothing(self) -> None:
         run = samples.recorded()
         for fragment in ("#d=", "#d=9999", "#d=<b>", "#d=%3Cimg%20src=x%3E", "#%", "#d=1x"):
-            self.show(run, fragment)
+            self.show_all(run, fragment)
             self.assertEqual(len(self.asked(LINES)), len(run.fold.rows), fragment)
             self.assertEqual(self.trouble(), [], fragment)
 
@@ -150,13 +147,6 @@ class Trees(InBrowser):
         self.assertEqual(self.trouble(), [])
         for selector in ("#tree img", "#tree script", "#tree b[onmouseover]", "#tree svg", "#tree [onclick]", "#tree iframe"):
             self.assertFalse(self.asked(f"document.querySelector({json.dumps(selector)}) !== null"), selector)
-
-    def test_without_scripts_the_address_leads_to_the_outcome(self) -> None:
-        self.browser.scripts(False)
-        run = samples.recorded()
-        self.show(run, "#d=6")
-        self.assertEqual(self.asked("document.querySelector('tr:target').dataset.d"), "6")
-        self.assertEqual(len(self.asked(LINES)), len(run.fold.rows))
 
 
 if __name__ == "__main__":

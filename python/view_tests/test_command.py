@@ -90,7 +90,7 @@ class Command(unittest.TestCase):
             "--journal", _JOURNAL, "--from", 20, "--to", 30, "-o", self.folder / "x.html"
         )
         self.assertEqual(status, 0)
-        self.assertIn("of which the chart shows 20 to 30", errors)
+        self.assertIn("of which the page has 20 to 30", errors)
 
     def test_facts(self) -> None:
         facts = self.folder / "facts"

@@ -14,7 +14,7 @@ from typing import Dict, List
 from deferreds.checkout import TOP
 
 _JOURNAL = TOP / "examples" / "python" / "workers.journal"
-_COMMAND = [sys.executable, "-m", "deferreds.view.start"]
+_COMMAND = [sys.executable, "-m", "deferreds.view.command"]
 
 
 def environment() -> Dict[str, str]:

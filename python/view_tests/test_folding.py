@@ -2,12 +2,11 @@
 
 from __future__ import annotations
 
+import time
 import unittest
 from typing import List, Tuple
 
-from deferreds.view.folding import Folding, written
-from deferreds.view.page import Page
-from deferreds.view.sizes import AT_A_TIME
+from deferreds.view.folding import Folded, Folding, same_lines
 from deferreds.view.run import Run, run_of_journal
 
 from . import samples
@@ -28,9 +27,19 @@ def polling(turns: int, *more: str) -> List[str]:
     return lines
 
 
+def found(run: Run) -> List[Folded]:
+    """The folds of a run."""
+    rows, every = run.fold.rows, range(len(run.fold.rows))
+    return list(Folding(rows, every, same_lines(rows, every)).folds())
+
+
 def folds(run: Run) -> List[Tuple[int, str]]:
-    """The lines that stay, from 1, with what the page has of their folds."""
-    return [(row + 1, written(found)) for row, found in sorted(Folding(run.fold, Page(run)._rows).of.items())]
+    """The lines that stay, from 1, with the kind of the fold, how often turns come, and how many rows after or before are hidden."""
+    return [(one.row + 1, f"{one.kind}{f'{one.times}.' if one.times else ''}{_hides(one)}") for one in sorted(found(run), key=lambda one: one.row)]
+
+
+def _hides(one: Folded) -> int:
+    return one.last - one.row if one.last > one.row else one.first - one.row
 
 
 class Pairs(unittest.TestCase):
@@ -103,17 +112,36 @@ class All(unittest.TestCase):
     def test_they_hide_what_is_there_and_lie_in_one_another(self) -> None:
         count = 0
         for sample in [*samples.rows(), *samples.told_by_the_program(), samples.Sample("recorded", samples.recorded())]:
-            rows = Page(sample.run)._rows
-            for found in Folding(sample.run.fold, rows).of.values():
-                for one in found:
-                    count += 1
-                    hidden = range(one.slot + 1, one.slot + 1 + one.hides) if one.hides > 0 else range(one.slot + one.hides, one.slot)
-                    self.assertTrue(0 <= hidden.start < hidden.stop < rows.total, sample.name)
+            for one in found(sample.run):
+                count += 1
+                self.assertTrue(0 <= one.first <= one.last < len(sample.run.fold.rows), sample.name)
+                self.assertFalse(one.first <= one.row <= one.last, sample.name)
         self.assertGreater(count, 60)
 
     def test_a_long_run_takes_no_longer_than_its_lines(self) -> None:
-        run = of(polling(AT_A_TIME // 6 - 1, "add #0"))
-        self.assertEqual(len(folds(run)), 1)
+        seconds = []
+        for turns, more in ((300, ["add #0"]), (3_000, ["add #0"])):
+            run = of(polling(turns, *more))
+            begun = time.process_time()
+            self.assertEqual(len(folds(run)), 1)
+            seconds.append(time.process_time() - begun)
+        self.assertLess(seconds[1], 30 * seconds[0])
+
+    def test_parts_that_come_again_without_a_turn_take_no_longer(self) -> None:
+        run = of([line for at in range(20_000) for line in (f"advance {at}", "call c")])
+        begun = time.process_time()
+        self.assertEqual(folds(run), [])
+        self.assertLess(time.process_time() - begun, 2)
+
+
+class Same(unittest.TestCase):
+    """Equal lines are one row."""
+
+    def test_five_equal_lines_of_an_event(self) -> None:
+        rows = of(["new #0 d", *["cancel #0"] * 5, 'note ""', *["add #0"] * 4]).fold.rows
+        self.assertEqual(same_lines(rows, range(len(rows))), {1: 5})
+        self.assertEqual(same_lines(rows, range(2, len(rows))), {})
+        self.assertEqual(same_lines(rows, range(3, 3)), {})
 
 
 if __name__ == "__main__":

@@ -44,6 +44,18 @@ _LEAK = [
 _WAITER = ["new #3 waiter", "acquire l #3"]
 
 
+class Things(unittest.TestCase):
+    """Where locks were made."""
+
+    def test_a_row_says_what_the_line_binds_that_made_the_lock(self) -> None:
+        run = run_of([*_LEAK, *_WAITER])
+        run.places = Places({}, {}, things={"l": Place("/srv/a.py", 7)}, sources={"/srv/a.py": [(7, ["self.locks[name] = DeferredLock()"])]})
+        self.assertIn("l is self.locks[name], made at a.py:7", " ".join(report_of(run)))
+        run = run_of([*_LEAK, *_WAITER])
+        run.places = Places({}, {}, things={"l": Place("/srv/a.py", 7)})
+        self.assertIn("l was made at a.py:7", " ".join(report_of(run)))
+
+
 class WhoActs(unittest.TestCase):
     """Whose body acts in which line."""
 

@@ -25,7 +25,7 @@ from . import samples
 from .test_batches import view
 from .test_browser import InBrowser
 from .test_compared import lost, mended
-from .test_page import _ATTRIBUTES, _ELEMENTS, Read
+from .test_page import _ATTRIBUTES, _ELEMENTS, Read, targets
 
 _EXAMPLES = TOP / "examples"
 _FULL_QUEUE, _CROSSED_LOCKS = _EXAMPLES / "full_queue.json", _EXAMPLES / "crossed_locks.json"
@@ -293,15 +293,15 @@ class OfPage(unittest.TestCase):
         hostile = samples.hostile()
         page = OrdersPage("".join(samples.HOSTILE[:8]), orders, lambda batches, label: hostile).html()
         read = Read(page)
-        self.assertLessEqual(read.elements, _ELEMENTS | {"iframe", "h3", "code", "noscript", "b"})
-        self.assertLessEqual(read.attributes, _ATTRIBUTES | {"srcdoc", "data-o"})
+        self.assertLessEqual(read.elements, _ELEMENTS | {"iframe", "h3", "th"})
+        self.assertLessEqual(read.attributes, _ATTRIBUTES | {"srcdoc", "data-o", "height"})
         self.assertEqual(set(texts.unseen().findall(page)), {"\n"})
         self.assertTrue(all(re.fullmatch("#?(order-[A-Z]|[a-z]+)", name) for name in read.values["id"] | read.values["href"]))
         for text in read.values["srcdoc"]:
             inner = Read(text)
             self.assertLessEqual(inner.elements, _ELEMENTS | {"base"})
             self.assertLessEqual(inner.attributes, _ATTRIBUTES)
-            self.assertLessEqual(inner.links - {"about:srcdoc"}, {f"#{one}" for one in inner.ids})
+            self.assertLessEqual(inner.links - {"about:srcdoc"}, targets(text))
 
     def test_the_policy_allows_what_stands_on_the_page_and_in_its_frames_alone(self) -> None:
         read = Read(page_of(_PRINTED, lost(), mended()).html())
@@ -475,7 +475,7 @@ class Seen(InBrowser):
         self.assertEqual(self.inside("B", "d.querySelector('#r7 .t').textContent"), "post 1 0")
         self.inside("B", "d.querySelector('.ends a[href^=\"#r\"]:not([data-f])').click()")
         self.waited(f"/^#r/.test({_FRAME.format('B')}.contentWindow.location.hash)")
-        self.assertEqual(self.inside("B", "d.querySelectorAll('.row:target').length"), 1)
+        self.assertEqual(self.inside("B", "d.querySelectorAll('.row.here').length"), 1)
         self.inside("B", "d.querySelector('#chart [data-f]').click()")
         self.assertEqual(self.inside("B", "d.body.className"), "focus")
         self.inside("B", "d.querySelector('#focus a').click()")
@@ -539,10 +539,9 @@ class Seen(InBrowser):
         self.assertEqual(self.shown(), ["A", "B"])
         tops: Tuple[float, ...] = tuple(self.asked("[...document.querySelectorAll('iframe')].map(one => one.getBoundingClientRect().top)"))
         self.assertLess(tops[0] + 200, tops[1])
-        self.assertEqual([self.inside(letter, "d.querySelector('#r7 .t').textContent") for letter in "AB"], ["post 0 1", "post 1 0"])
+        lines = [self.inside(letter, "d.querySelector('noscript pre').textContent").split("\n") for letter in "AB"]
+        self.assertEqual([each[6] for each in lines], ["post 0 1", "post 1 0"])
         self.assertEqual(self.asked("document.querySelectorAll('select').length"), 0)
-        self.inside("B", "d.querySelector('.ends a[href^=\"#r\"]:not([data-f])').click()")
-        self.waited(f"/^#r/.test({_FRAME.format('B')}.contentWindow.location.hash)")
         self.assertEqual(self.trouble(), [])
 
 

@@ -9,7 +9,9 @@ from pathlib import Path
 from typing import Any, Dict, List, NamedTuple
 
 from deferreds.view import command
-from deferreds.view.places import NotPlaces, Place, read_places
+from deferreds.view.places import Frame, NotPlaces, Place, read_places
+
+from .test_page import data_of
 
 _JOURNAL = """\
 new #0 d
@@ -72,6 +74,103 @@ class ReadTest(unittest.TestCase):
                 read_places(json.dumps({**_PLACES, "actions": {"/events/0": place}}))
 
 
+_STACKS: Dict[str, Any] = {
+    "frames": [[0, 12, "ask"], [1, 3, "order"]],
+    "lists": [[[0, 1], [1]], [[0]]],
+    "deferreds": {"d": 0},
+    "actions": {"/events/0": 1},
+}
+
+
+class StacksTest(unittest.TestCase):
+    """The functions in a text of places."""
+
+    def test_they_are_found_by_names_and_by_pointers(self) -> None:
+        places = read_places(json.dumps({**_PLACES, "stacks": _STACKS}))
+        ask, order = Frame(Place("/srv/a b/<i>.py", 12), "ask"), Frame(Place("relative.py", 3), "order")
+        self.assertEqual(places.stack_of(["x", "d"]), ((ask, order), (order,)))
+        self.assertEqual((places.stack_of_action("/events/0"), places.stack_of_action("/events/1"), places.stack_of(["e"])), (((ask,),), (), ()))
+        self.assertEqual(ask.text, "<i>.py:12 ask")
+
+    def test_an_earlier_recording_has_none(self) -> None:
+        places = read_places(json.dumps(_PLACES))
+        self.assertEqual((places.stack_of(["d"]), places.stack_of_action("/events/0")), ((), ()))
+
+    def test_what_is_damaged_is_refused_with_the_reason(self) -> None:
+        for changed, why in (
+            ([], "its stacks aren't an object"),
+            ({**_STACKS, "frames": 1}, "its stacks aren't an object of frames and lists"),
+            ({**_STACKS, "frames": [[0, 12], [0, 1, "f"]]}, "a frame of its stacks isn't"),
+            ({**_STACKS, "frames": [[7, 12, "ask"], [0, 1, "f"]]}, "in its frames, that of ask isn't the number of a file and a line"),
+            ({**_STACKS, "lists": [[[0, 2]], []]}, "something else than numbers of frames"),
+            ({**_STACKS, "lists": [[[True]], []]}, "something else than numbers of frames"),
+            ({**_STACKS, "lists": [[0], []]}, "isn't an array of arrays"),
+            ({**_STACKS, "deferreds": {"d": 2}}, "the deferreds of its stacks aren't numbers of lists"),
+            ({**_STACKS, "actions": 1}, "the actions of its stacks aren't numbers of lists"),
+        ):
+            with self.assertRaisesRegex(NotPlaces, why):
+                read_places(json.dumps({**_PLACES, "stacks": changed}))
+
+
+class CallsTest(unittest.TestCase):
+    """What inline bodies were called with, in a text of places."""
+
+    def test_they_are_found_by_names(self) -> None:
+        places = read_places(json.dumps({**_PLACES, "calls": {"d": "get(key=3)"}}))
+        self.assertEqual((places.call_of(["x", "d"]), places.call_of(["e"])), ("get(key=3)", ""))
+        self.assertEqual(read_places(json.dumps(_PLACES)).call_of(["d"]), "")
+
+    def test_what_is_damaged_is_refused_with_the_reason(self) -> None:
+        for changed in ([], {"d": 1}, "x"):
+            with self.assertRaisesRegex(NotPlaces, "its calls aren't an object of texts"):
+                read_places(json.dumps({**_PLACES, "calls": changed}))
+
+
+class ThingsTest(unittest.TestCase):
+    """Where locks and queues were made, in a text of places."""
+
+    def test_they_are_found_by_their_names_and_by_what_the_line_binds(self) -> None:
+        lines = ["self.locks[name] = DeferredLock()", "use(DeferredLock())", "a == b", "f(a=DeferredLock())", f"{'x' * 70} = 1"]
+        kept = {"things": {"lock_a": [0, 1]}, "sources": [[0, 1, lines]]}
+        places = read_places(json.dumps({**_PLACES, **kept}))
+        place = places.of_thing("lock_a")
+        assert place is not None
+        self.assertEqual((place.text, places.bound_at(place), places.of_thing("lock_b")), ("<i>.py:1", "self.locks[name]", None))
+        self.assertEqual([places.bound_at(place._replace(line=line)) for line in range(2, 7)], [""] * 5)
+        self.assertIsNone(read_places(json.dumps(_PLACES)).of_thing("lock_a"))
+
+    def test_what_is_damaged_is_refused_with_the_reason(self) -> None:
+        with self.assertRaisesRegex(NotPlaces, "in its things, that of lock_a isn't the number of a file and a line"):
+            read_places(json.dumps({**_PLACES, "things": {"lock_a": [9, 1]}}))
+
+
+class SourcesTest(unittest.TestCase):
+    """The lines of files in a text of places."""
+
+    def test_they_are_those_around_a_place(self) -> None:
+        kept = [[0, 10, ["a", "b", "c", "d"]], [1, 1, ["x"]], [0, 30, [str(number) for number in range(30, 50)]]]
+        places = read_places(json.dumps({**_PLACES, "sources": kept}))
+        file = "/srv/a b/<i>.py"
+        self.assertEqual(places.source_of(Place(file, 12)), [(10, "a"), (11, "b"), (12, "c"), (13, "d")])
+        self.assertEqual([line.number for line in places.source_of(Place(file, 40))], list(range(37, 44)))
+        self.assertEqual(places.source_of(Place(file, 40), 0), [(40, "40")])
+        self.assertEqual([places.source_of(place) for place in (Place(file, 9), Place(file, 14), Place("other.py", 1))], [[], [], []])
+
+    def test_an_earlier_recording_has_none(self) -> None:
+        self.assertEqual(read_places(json.dumps(_PLACES)).source_of(Place("/srv/a b/<i>.py", 12)), [])
+
+    def test_what_is_damaged_is_refused_with_the_reason(self) -> None:
+        for changed, why in (
+            ({}, "its sources aren't an array"),
+            ([1], "isn't the number of a file, a line and an array"),
+            ([[0, 1]], "isn't the number of a file, a line and an array"),
+            ([[9, 1, []]], "in its sources, that of a line isn't the number of a file and a line"),
+            ([[0, 1, ["a", 2]]], "something else than texts"),
+        ):
+            with self.assertRaisesRegex(NotPlaces, why):
+                read_places(json.dumps({**_PLACES, "sources": changed}))
+
+
 class ShownTest(unittest.TestCase):
     """The command, with a file of places."""
 
@@ -108,8 +207,11 @@ class ShownTest(unittest.TestCase):
         self.write("run.places.json", json.dumps(_PLACES))
         page = self.page(*self.journal())
         link = f'<a class=at target=_top href="{_ADDRESS}" title="/srv/a b/&lt;i&gt;.py:12"><bdi>&lt;i&gt;.py:12</bdi></a>'
-        self.assertEqual(page.count(link), 3)  # in the report, at the outcomes, and at the row that makes it
+        self.assertEqual(page.count(link), 2)  # in the report, and at the outcomes
         self.assertIn('<span class=at title="relative.py:3"><bdi>relative.py:3</bdi></span>', page)
+        data = data_of(page)
+        self.assertEqual(data["files"], [["/srv/a b/<i>.py", "<i>.py", _ADDRESS], ["relative.py", "relative.py", None]])
+        self.assertEqual(data["places"], [[0, 12], [1, 3]])
         self.assertIn("<span>Made at</span>", page)
         self.assertIn("lines that fire one of this name: <", page)
         self.assertIn("<bdi>&lt;i&gt;.py:15</bdi>", page)

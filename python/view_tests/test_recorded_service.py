@@ -11,7 +11,7 @@ from deferreds.checkout import TOP
 from deferreds.view.compared import Compared
 from deferreds.view.compared_forms import ComparedPage
 from deferreds.view.inputs import Inputs, read_any
-from deferreds.view.pages import written_page
+from deferreds.view.page import written_page
 from deferreds.view.run import Run
 from deferreds.view.terminal import Terminal
 

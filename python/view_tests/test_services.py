@@ -15,19 +15,18 @@ from typing import Dict, List, NamedTuple
 from deferreds.view.as_json import AsJson
 from deferreds.view.findings import Finding, Kind, Severity
 from deferreds.view.inputs import Inputs
-from deferreds.view.pages import written_page
-from deferreds.view.places import Place, Places
+from deferreds.view.page import written_page
+from deferreds.view.places import Place, Places, read_places
 from deferreds.view.run import Run
 from deferreds.view.terminal import Terminal
 
 from . import samples
 from .test_browser import InBrowser
+from .test_page import data_of
 
 _RECORDINGS = Path(__file__).resolve().parent / "data" / "services"
 _PROGRAMS = Path(__file__).resolve().parents[1] / "data" / "services"
 _SCREEN = 900
-#: becomes true when a page that draws itself has drawn all
-_WHOLE = "new Promise(done => { (function look() { if ('whole' in document.body.dataset) return done(true); setTimeout(look, 20); })(); })"
 
 
 class Cause(NamedTuple):
@@ -41,22 +40,29 @@ class Cause(NamedTuple):
 _CAUSES = {
     "ledger": Cause(
         Kind.HELD,
-        ["transfer_48_5 took a token", "never released it", 'failed with Refused "dan has 5, not 9"', "do_balance_40_4 waits for a token"],
+        [
+            "transfer(source='dan', target='bob', amount=9) (",
+            "transfer_48_5) took a token",
+            "never released it",
+            'failed with Refused "dan has 5, not 9"',
+            "do_balance_40_4 waits for a token",
+            "called as do_balance(name='dan')",
+        ],
         {"ledger.py:53": "await self.lock(second).acquire()", "ledger.py:40": "yield lock.acquire()"},
     ),
     "payments": Cause(
         Kind.SWALLOWED,
-        ['nobody got "receipt-13 card-6 312"', "14 were made there: 13 ok, 1 cancelled", 'made another there: #96·ask_33_13, fired with ok "receipt-12 card-6 312"'],
-        {"wire.py:33": "defer.Deferred()", "wire.py:41": "answer.callback("},
+        ['nobody got "receipt-13 card-6 312"', "13 were made there: 12 ok, 1 cancelled", "ask_33_13, fired with ok \"receipt-12 card-6 312\""],
+        {"wire.py:33": "defer.Deferred()", "wire.py:41": "answer.callback(", "payments.py:46": 'self.bank.ask("charge"', "payments.py:61": "charge("},
     ),
     "payments_small": Cause(
         Kind.ODD,
-        ["was unfired for 0.12 s, and then cancelled", "7 were made there: 6 ok, 1 cancelled", "the body of #27·charge_61_4 made another there", "a guess"],
-        {"wire.py:33": "defer.Deferred()"},
+        ["was unfired for 0.12 s, and then cancelled", "6 were made there: 5 ok, 1 cancelled", "charge_61_4 made another there", "a guess"],
+        {"wire.py:33": "defer.Deferred()", "payments_small.py:46": 'self.bank.ask("charge"'},
     ),
     "warehouse": Cause(
         Kind.ODD,
-        ["was unfired for 1.4", "43 were made there: 41 ok, 1 cancelled, 1 fail", "order_103_7, made at warehouse.py:103, awaited it at warehouse.py:67", "a guess"],
+        ["was unfired for 1.", "order(number=7, town='Ripon'", "17 were made there: 15 ok, 1 cancelled, 1 fail", "order_103_7), made at warehouse.py:103, awaited it at warehouse.py:67", "a guess"],
         {"wire.py:33": "defer.Deferred()", "warehouse.py:103": "shop.order(", "warehouse.py:67": 'await self.warehouse.ask("reserve"'},
     ),
     "stock_levels": Cause(
@@ -83,6 +89,12 @@ _MENDED = ("ledger", "payments", "warehouse", "stock_levels", "mailer", "transfe
 def run_of_service(name: str) -> Run:
     """The run of a recorded service, with what stands beside its script."""
     return Inputs(str(_RECORDINGS / f"{name}.json")).run()
+
+
+def places_of_service(name: str, *but: str) -> Places:
+    """The places of a recorded service, without these keys: an earlier version has written none of them."""
+    told = json.loads((_RECORDINGS / f"{name}.places.json").read_text(encoding="utf-8"))
+    return read_places(json.dumps({key: value for key, value in told.items() if key not in but}))
 
 
 def _said(run: Run, finding: Finding) -> str:
@@ -154,12 +166,16 @@ class ByLine(unittest.TestCase):
     def test_the_lost_answer_stands_out_among_those_of_its_line(self) -> None:
         run = run_of_service("warehouse")
         first = json.loads(AsJson(run).text())["made"][0]
-        self.assertEqual((first["file"], first["line"], first["function"], first["made"]), ("/srv/shop/wire.py", 33, "ask", 43))
-        self.assertEqual(first["ended"], {"ok": 41, "cancelled": 1, "fail": 1})
-        self.assertEqual(first["odd"], [114])
+        self.assertEqual((first["file"], first["line"], first["function"], first["made"]), ("/srv/shop/warehouse.py", 67, "order", 17))
+        self.assertEqual(first["by"], {"file": "/srv/shop/wire.py", "line": 33, "function": "ask"})
+        self.assertEqual(first["ended"], {"ok": 15, "cancelled": 1, "fail": 1})
+        odd = [one for one in first["deferreds"] if one["number"] in first["odd"]]
+        self.assertEqual(len(odd), 1)
+        self.assertRegex(odd[0]["name"], r"^ask_33_\d+$")
         self.assertGreater(first["longest"]["seconds"], 50 * first["median"]["seconds"])
-        lost = next(one for one in first["deferreds"] if one["number"] == 114)
-        self.assertEqual(lost["unfired"], first["longest"])
+        self.assertEqual(odd[0]["unfired"], first["longest"])
+        stack = [[f"{Path(one['file']).name}:{one['line']} {one['function']}" for one in part] for part in odd[0]["stack"]]
+        self.assertEqual(stack, [["wire.py:33 ask", "warehouse.py:67 order"], ["warehouse.py:103 main"], ["warehouse.py:116 <lambda>"]])
         self.assertEqual(sum(line["made"] for line in json.loads(AsJson(run).text())["made"]), len(run.inferred.sites.of))
 
     def test_a_mended_service_has_no_odd_one(self) -> None:
@@ -172,10 +188,10 @@ class ByLine(unittest.TestCase):
         table = lines[lines.index("") + 1 :]
         self.assertEqual(table[0].split("  ")[0], "made at")
         self.assertEqual(len(table) - 1, len(run.inferred.sites.all))
-        self.assertRegex(table[1], r"^wire\.py:33 ask +16 +13 ok, 1 fail, 2 unfired +0\.043 s +0\.8\d+ s +#71 #101$")
+        self.assertRegex(table[1], r"^ledger\.py:109 step, by ask at wire\.py:33 +16 +13 ok, 1 fail, 2 unfired +[\d.]+ s +[\d.]+ s +#\d+ #\d+$")
         page = written_page(run)
         self.assertEqual(page.count("<summary class=site>"), len(run.inferred.sites.all))
-        self.assertIn("<span>13 ok, 1 fail, 2 unfired</span><span>0.043 s</span>", page)
+        self.assertRegex(page, r"<bdi>step, by ask at wire.py:33</bdi></span><span>16</span><span>13 ok, 1 fail, 2 unfired</span><span>0.0\d+ s</span>")
 
     def test_the_outcomes_of_a_text_stand_below_their_lines(self) -> None:
         lines = list(Terminal(run_of_service("mailer"), False).lines())
@@ -210,11 +226,12 @@ class Words(unittest.TestCase):
     def test_times_are_seconds(self) -> None:
         run = run_of_service("warehouse")
         page, lines = written_page(run), list(Terminal(run, False).lines())
-        self.assertRegex(lines[1], r"^1298 lines, 151 Deferreds, 219 events, 1\.6\d\d s, a tick is 1 µs$")
+        self.assertRegex(lines[1], r"^\d+ lines, 151 Deferreds, \d+ events, 1\.\d+ s, a tick is 1 µs$")
         self.assertTrue(any(re.match(r" *\d+ +0\.0\d+ s advance \d+000 ", line) for line in lines))
-        self.assertIn("<div class=what>  line  seconds   what happened</div>", page)
-        self.assertRegex(page, r"<text class=time x=2 y=\d+>0\.0\d+</text>")
-        self.assertRegex(page, r"<text x=[\d.]+% y=12>0\.5 s</text>")
+        data = data_of(page)
+        self.assertEqual(data["tick"], 0.000001)
+        self.assertTrue(all(said == f"{ticks / 1_000_000:g} s" for ticks, said in data["axis"]["marks"]), data["axis"]["marks"])
+        self.assertGreater(len(data["axis"]["marks"]), 2)
 
 
 class FirstScreen(InBrowser):
@@ -232,24 +249,14 @@ class FirstScreen(InBrowser):
                 for place in cause.lines:
                     self.assertIn(place, said)
 
-    def test_a_page_that_draws_itself_shows_the_same(self) -> None:
-        shown = "Array.from(document.querySelectorAll('.report, .sites, .verdict'), one => one.outerHTML)"
-        for name in ("ledger", "warehouse", "feeds", "transfers", "stock_levels", "mailer"):
-            with self.subTest(name):
-                told = Inputs(str(_RECORDINGS / f"{name}.json")).told()
-                self.show_drawn(samples.Text(told.source, told.text))
-                self.asked(_WHOLE)
-                drawn = self.asked(shown)
-                self.show(told.run())
-                self.assertEqual(drawn, self.asked(shown))
-
     def test_a_line_opens_to_its_deferreds(self) -> None:
         self.show(run_of_service("warehouse"))
-        shown = "document.querySelector('#site-0 tr[data-d=\"114\"]').checkVisibility()"
-        self.assertFalse(self.asked(shown))
+        shown = "document.querySelector('#site-0 tr[data-d]')"
+        self.assertTrue(self.asked(f"{shown} === null"))
         self.browser.click("#site-0 > summary")
-        self.assertTrue(self.asked(shown))
-        self.assertEqual(self.asked("document.querySelectorAll('#site-0 tr[data-d]').length"), 43)
+        self.browser.settle()
+        self.assertTrue(self.asked(f"{shown}.checkVisibility()"))
+        self.assertEqual(self.asked("document.querySelectorAll('#site-0 tr[data-d]').length"), 17)
 
 
 if __name__ == "__main__":

@@ -126,9 +126,9 @@ class Written(unittest.TestCase):
 
     def test_a_line_for_each(self) -> None:
         run = of(_HANDED, "#0 outer ok 42", "#1 inner ok null")
-        lines = [run.stories.written(record, run.durations) for record in run.fold.records.values()]
-        self.assertEqual(lines[0], "0 outer ok 0 4 0 2 m0 f3 r4-5 w5-8,4#1 r9-11 ( o10 )")
-        self.assertEqual(lines[1], "1 inner ok 4 0 0 1 m1 f7 r12-13")
+        lines = [run.stories.written(number, run.durations) for number in run.fold.records]
+        self.assertEqual(lines[0], "m0 f3 r4-5 w5-8,4#1 r9-11 ( o10 )")
+        self.assertEqual(lines[1], "m1 f7 r12-13")
 
 
 if __name__ == "__main__":

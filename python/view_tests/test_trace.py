@@ -200,8 +200,9 @@ class OfARecording(unittest.TestCase):
         run = run_of_service("warehouse")
         trace = Trace(run)
         self.assertEqual(list(broken(trace.text())), [])
-        lost = next(one for one in trace.events() if one["ph"] == "X" and one["name"] == "unfired" and one["tid"] == FIRST + 114)
-        took = run.durations.of(run.fold.records[114]).unfired
+        number = run.inferred.sites.all[0].odd[0]
+        lost = next(one for one in trace.events() if one["ph"] == "X" and one["name"] == "unfired" and one["tid"] == FIRST + number)
+        took = run.durations.of(run.fold.records[number]).unfired
         self.assertLess(abs(lost["dur"] - took), len(run.fold.rows))  # (a tick is a microsecond there)
         self.assertIn('"tick": "as it was in the run"', trace.text())
 
@@ -212,12 +213,13 @@ class OfARecording(unittest.TestCase):
         self.assertEqual(times, [("unfired", 0, 5001), ("ok 1", 5001, 1)])
 
     def test_tracks_of_one_line_stand_beside_each_other_and_slices_have_their_lines(self) -> None:
-        events = Trace(run_of_service("ledger")).events()
+        run = run_of_service("ledger")
+        events, asked = Trace(run).events(), run.inferred.sites.all[0].records[0].number
         names = [one["args"]["name"] for one in events if one["name"] == "thread_name"]
-        self.assertEqual([name.split()[0] for name in names[1:17]], ["wire.py:33"] * 16)
+        self.assertEqual([name.split()[0] for name in names[1:17]], ["ledger.py:109"] * 16)
         order = [one["args"]["sort_index"] for one in events if one["name"] == "thread_sort_index"]
         self.assertEqual(order, list(range(1, len(names) + 1)))
-        places = {one["args"].get("place") for one in events if one["ph"] == "X" and one["tid"] == FIRST + 71}
+        places = {one["args"].get("place") for one in events if one["ph"] == "X" and one["tid"] == FIRST + asked}
         self.assertIn("/srv/shop/wire.py:33", places)
 
 

@@ -5,7 +5,7 @@ its order, with the names of Deferreds and objects and the values of queues. Lef
 children of lists, who is chained to whom, for whom a loop's turn waits, how many bodies a task has left; a timer whose
 Deferred was fired and hasn't used all of its pairs; a loop whose turn isn't over, where other code has fired its Deferred,
 or the run has stopped; what the last line of a run that has stopped was to change; an await of a Deferred whose side runs
-at the end. Where a line names one of several objects of a name, the fold takes its number from the facts, and where they
+at the end, or whose pairs were being used when the run stopped. Where a line names one of several objects of a name, the fold takes its number from the facts, and where they
 don't say it either, only the Deferreds are compared.
 """
 
@@ -131,9 +131,13 @@ def _left(fold: Fold, facts: Facts, is_whole: bool, stopped: bool) -> Iterator[s
     yield from differ
 
 
-def _runs(fold: Fold, hang: Hang) -> bool:
-    """Whether the pair by which an inline body awaits may be the one whose side runs at the end."""
-    return hang.at is At.AWAIT and fold.records[hang.number].runs_since is not None
+def _runs(fold: Fold, hang: Hang, stopped: bool) -> bool:
+    """Whether the pair by which an inline body awaits may be the one whose side runs at the end, or one that was to run when the run
+    stopped: lines don't say which pairs of a fired Deferred have been used."""
+    if hang.at is not At.AWAIT:
+        return False
+    record = fold.records[hang.number]
+    return record.runs_since is not None or (stopped and not record.is_stuck)
 
 
 def _untold(is_whole: bool, last: str) -> FrozenSet[At]:
@@ -149,7 +153,7 @@ def _comparable(
     for one in left:
         if isinstance(one, LeftDeferred):
             untold = _untold(is_whole, last)
-            known = (hang for hang in one.hangs if hang.at not in untold and not _runs(fold, hang))
+            known = (hang for hang in one.hangs if hang.at not in untold and not _runs(fold, hang, stopped))
             yield one._replace(hangs=tuple(known))
         elif isinstance(one, LeftTimeout):
             if fold.records[one.deferred].fired is None:

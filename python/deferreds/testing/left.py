@@ -2,13 +2,15 @@
 
 from __future__ import annotations
 
+import json
 from bisect import bisect_right
 from typing import Dict, List, NamedTuple, Optional
 
+from ..twisted.recording.how_shaken import how_shaken
 from ..twisted.recording.recorder import Recorder
 from ..twisted.recording.saying import Said
 from ..twisted.telling import Advance, Record, Thing
-from ..view.pages import page_of
+from ..view.page import written_page
 from ..view.findings import Finding, Kind, Severity
 from ..view.run import Run, run_of
 from ..view.names import PLACES, WHOLE_JOURNAL
@@ -58,9 +60,9 @@ def recording_of(recorder: Recorder, title: str) -> Recording:
     problem = _problem(said)
     why = f"a script can't say this: {problem}. What is shown may lack it" if problem is not None else ""
     places, journal = said.places, said.whole_output
-    source = Source(title, True, said.text if problem is None else "", places or "", "", False, said.begins, why)
+    source = Source(title, True, said.text if problem is None else "", places or "", "", False, said.begins, why, json.dumps(how_shaken()))
     run = run_of(source, journal)
-    files = {".journal": journal, ".html": page_of(source, journal, run)}
+    files = {".journal": journal, ".html": written_page(run)}
     if places is not None:
         files[PLACES] = places
     if said.script is not None:
@@ -92,7 +94,7 @@ def _left(run: Run, said: Said) -> List[str]:
     return [
         terminal.said(finding.said)
         for finding in run.report.findings
-        if finding.severity in (Severity.BAD, Severity.LEFT) and not _came_to_the_program(finding, said)
+        if finding.severity in (Severity.BAD, Severity.LEFT) and finding.kind is not Kind.SHAKEN and not _came_to_the_program(finding, said)
     ]
 
 

@@ -8,6 +8,7 @@ pytest finds this module by an entry point of the package. Nothing of Twisted is
 from __future__ import annotations
 
 import contextlib
+import math
 import os
 import sys
 from pathlib import Path
@@ -22,7 +23,8 @@ if TYPE_CHECKING:
     from .recorded import RecordedTest, RecordedTests
 
 _OPTION = "--deferreds-record"
-_SHAKE, _SEED = "--shake", "--shake-seed"
+_SHAKE, _SEED, _WITHIN = "--shake", "--shake-seed", "--shake-within"
+_NO_CUT, _FAST = "--shake-no-cut", "--shake-fast"
 
 #: the status of the run of tests, once they were shaken
 _shaken: List[int] = []
@@ -49,6 +51,9 @@ def pytest_addoption(parser: Any) -> None:
         help="run each test alone, N times, shaken by a seed each time, and record the first run that fails (docs/SHAKE.md)",
     )
     group.addoption(_SEED, type=int, default=1, metavar="K", help="with --shake: the first seed")
+    group.addoption(_WITHIN, type=float, metavar="S", help="with --shake: how many seconds a run of a test may take: 20, if it isn't said")
+    group.addoption(_NO_CUT, action="store_true", help="with --shake: don't look which perturbations a failure needs")
+    group.addoption(_FAST, action="store_true", help="with --shake: have the clock jump over a wait in which nothing but time can bring anything")
 
 
 @contextlib.contextmanager
@@ -81,23 +86,29 @@ def pytest_load_initial_conftests(early_config: Any) -> None:
 def _shake(early_config: Any) -> int:
     """Shakes the tests that are asked for. Gives the status of the run of tests."""
     from .folder import NotUsable as Unusable
-    from .pytest_shaken import Shaking, shake
+    from ..twisted.shaking.choices import Settings
+    from .pytest_shaken import SECONDS, Shaking, shake
 
     given = early_config.known_args_namespace
     if given.shake < 1 or given.shake_seed < 0:
         raise Unusable("the number of runs is from 1 on, and a seed from 0 on")
+    seconds = SECONDS if given.shake_within is None else given.shake_within
+    if not (math.isfinite(seconds) and seconds > 0):
+        raise Unusable(f"{_WITHIN} is a number of more than 0")
     tests = list(given.file_or_dir or ())
     options = _without_own([word for word in early_config.invocation_params.args if word not in tests])
-    return shake(Shaking(given.shake, given.shake_seed, Path(given.deferreds_record or os.curdir).resolve(), options, tests))
+    folder = Path(given.deferreds_record or os.curdir).resolve()
+    settings = Settings(given.shake_seed, is_fast=given.shake_fast)
+    return shake(Shaking(given.shake, settings, seconds, not given.shake_no_cut, folder, options, tests))
 
 
 def _without_own(words: List[str]) -> List[str]:
-    """The words of pytest without the options of this plugin, which take one each."""
-    own = (_SHAKE, _SEED, _OPTION)
+    """The words of pytest without the options of this plugin, most of which take one each."""
+    own = (_SHAKE, _SEED, _WITHIN, _OPTION)
     kept: List[str] = []
     before = ""
     for word in words:
-        if word not in own and before not in own and not word.startswith(tuple(f"{option}=" for option in own)):
+        if word not in (*own, _NO_CUT, _FAST) and before not in own and not word.startswith(tuple(f"{option}=" for option in own)):
             kept.append(word)
         before = word
     return kept

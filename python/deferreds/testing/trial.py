@@ -25,7 +25,7 @@ from .recorded import RecordedTest, RecordedTests
 
 _OPTION = "deferreds-record"
 _PLAIN = "deferreds-plain"
-_SHAKE, _SEED = "shake", "seed"
+_SHAKE, _SEED, _FAST = "shake", "seed", "fast"
 
 _Options: Any = trial.Options
 _run: Callable[[], object] = trial.run
@@ -40,6 +40,8 @@ class Options(_Options):
         [_SHAKE, None, None, "run each test this many times, shaken by a seed each time, and record the first run that fails"],
         [_SEED, None, None, "with --shake: the first seed"],
     ]
+
+    optFlags = [[_FAST, None, "with --shake: have the clock jump over a wait in which nothing but time can bring anything"]]
 
     #: whether tests are shaken: then the reactor isn't installed in this process
     shakes = False
@@ -69,6 +71,8 @@ class Options(_Options):
             if not self["tests"]:
                 raise usage.UsageError(f"--{_SHAKE} needs the name of a test, of a module or of a package")
             raise _Shaken(self)
+        if self[_FAST]:
+            raise usage.UsageError(f"--{_FAST} is for --{_SHAKE}")
         super().postOptions()
         if not self[_OPTION]:
             return
@@ -98,6 +102,7 @@ def _shake(options: Any) -> int:
     for name, option in ((_SEED, "--seed"), ("reactor", "--reactor"), (_PLAIN, "--plain")):
         if options.get(name):
             words += [option, options[name]]
+    words += [f"--{_FAST}"] if options[_FAST] else []
     statuses = [record.main([*words, "--test", test]) for test in options["tests"]]
     return min(filter(None, statuses), default=0)
 

@@ -7,7 +7,7 @@ from typing import List
 
 from ..commands import run_on_twisted
 
-COMMANDS = ("conform", "measure", "measure_shaking", "on_twisted", "record", "recorded_rows", "trial")
+COMMANDS = ("conform", "measure", "measure_shaking", "on_twisted", "reached", "record", "recorded_rows", "trial")
 
 
 def main(words: List[str]) -> int:

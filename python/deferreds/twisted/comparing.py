@@ -3,29 +3,27 @@
 from __future__ import annotations
 
 import json
-import re
 from typing import Callable, Iterator, List, NamedTuple, Optional, Sequence, Set, Tuple
 
 from ..orders import Order
 from . import grammar
-from .children import MOST_BYTES, last_line, named_status
+from .answers import compared
+from .behind import Twisted, Unnamed, explain
+from .children import MOST_BYTES
 from .classes import BUILT_IN
 from .cutting import cut_down
 from .posts import Batch, batches_of, has_posts
 from .profile import Entry
 from .programs import Answer, Program
-from .rows import ANY_LINES, filled
-from .running import AT_LIMIT, OVER, UNMET, Run, run
+from .rows import ANY_LINES
+from .running import AT_LIMIT, OVER, UNMET
 from .script import Refused, read
-
 
 #: how many bytes an answer may have beyond twice those that are expected
 MORE_BYTES = 1 << 20
 
 #: how many bytes count for each line that a row leaves out
 _BYTES_OF_A_LINE = 64
-
-_REFUSED = re.compile(r"script refused: (\d+ \w+)")
 
 
 class Difference(NamedTuple):
@@ -40,54 +38,12 @@ class Difference(NamedTuple):
     is_late: bool = False
     #: in which order posts were taken, where every order is compared
     order: Optional[Order] = None
-
-
-def compared(ours: Answer, theirs: Answer) -> Optional[Tuple[int, str, str]]:
-    """The first line in which they differ, from 1, and that line of each; where one of them has ended there, how.
-
-    Two answers that both aren't whole differ at their end, even where both are so for one reason.
-    """
-    other = theirs.output.splitlines()
-    mine = filled(ours.output.splitlines(), other)
-    for place, (line, another) in enumerate(zip(mine, other)):
-        if line != another:
-            return place + 1, line, another
-    if len(mine) != len(other):
-        place = min(len(mine), len(other))
-        return place + 1, _line(mine, place, ours), _line(other, place, theirs)
-    if ours.lack is not None or _end(ours) != _end(theirs):
-        return len(mine) + 1, ending(ours), ending(theirs)
-    return None
-
-
-def _line(lines: List[str], place: int, answer: Answer) -> str:
-    return lines[place] if place < len(lines) else ending(answer)
-
-
-def _end(answer: Answer) -> Tuple[object, ...]:
-    """By what the ends of two runs are compared: standard error counts where a script is refused."""
-    return answer.status, answer.lack, answer.errors if answer.status == 2 else ""
-
-
-def ending(answer: Answer) -> str:
-    """How a run has ended, in a few words: `(refused, 6 BadName)`."""
-    if answer.lack is not None:
-        return f"({_with_errors(answer.lack.why, answer.errors)})"
-    refused = _REFUSED.fullmatch(answer.errors.strip())
-    if answer.status == 2 and refused is not None:
-        return f"(refused, {refused[1]})"
-    known = {
-        OVER: "the end",
-        AT_LIMIT: "stopped at the limit of the journal, status 1",
-        UNMET: "a Deferred wasn't as the script expects, status 8",
-    }
-    how = known.get(answer.status) or f"ended by {named_status(answer.status)}"
-    return f"({_with_errors(how, answer.errors)})"
-
-
-def _with_errors(how: str, errors: str) -> str:
-    line = last_line(errors)
-    return f"{how}; standard error ends with: {line}" if line else how
+    #: whether the runs aren't compared to their ends, since Twisted can't do behind the entry what ours does
+    is_cut: bool = False
+    #: the last entry before a difference that no entry names, if there is one
+    behind: Optional[Entry] = None
+    #: whether it is ours that differs, and `theirs` is what Twisted prints with our rules
+    is_ours: bool = False
 
 
 def difference(
@@ -100,26 +56,15 @@ def difference(
     line, mine, other = first
     if theirs.lack is not None:
         return Difference(line, mine, other, None, True, theirs.lack.is_late)
-    return Difference(line, mine, other, _entry(script, line, theirs, batches))
-
-
-def _entry(
-    script: str, line: int, theirs: Answer, batches: Optional[List[Batch]]
-) -> Optional[Entry]:
-    """The entry by which real Twisted has parted from ours at this line, where theirs goes with Twisted."""
     try:
-        twisted = run(script.encode(), batches)
+        why = explain(Twisted(script, batches), line, ours, theirs)
     except Refused:
-        return None
-    if not _go_together(twisted, theirs, line):
-        return None
-    before = [(place, entry) for place, entry in twisted.quirks if place < line]
-    return before[-1][1] if before else None
-
-
-def _go_together(twisted: Run, theirs: Answer, line: int) -> bool:
-    """Whether they print the same up to this line."""
-    return twisted.output.splitlines()[:line] == theirs.output.splitlines()[:line]
+        why = None
+    if isinstance(why, Unnamed):
+        return Difference(*why.first, None, behind=why.behind, is_ours=why.is_ours)
+    if why is None:
+        return Difference(line, mine, other, None)
+    return Difference(line, mine, other, why.entry, is_cut=why.is_cut)
 
 
 class Case(NamedTuple):
@@ -205,9 +150,14 @@ class Comparison:
                 return False
             other = self.of_script(smaller)
             late = other is not None and other.is_late
-            return other is not None and not late and (other.entry, other.lacks) == (found.entry, found.lacks)
+            return other is not None and not late and _kind_of(other) == _kind_of(found)
 
         return script if late else cut_down(script, shows, self._trials)
+
+
+def _kind_of(found: Difference) -> Tuple[object, ...]:
+    """The likeness of a script that is cut down to the one from which it was cut."""
+    return found.entry, found.lacks, found.behind, found.is_ours
 
 
 def _batches(script: str, answer: Answer) -> Sequence[Optional[List[Batch]]]:

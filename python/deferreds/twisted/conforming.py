@@ -57,6 +57,8 @@ class Tally:
         self.passed = 0
         self.failed = 0
         self.named: Counter[str] = collections.Counter()
+        #: how many of those that an entry names weren't compared to their ends
+        self.cut = 0
         #: how many of the last runs weren't answered in time, and whether any run was answered
         self._late = 0
         self._answered = False
@@ -68,6 +70,7 @@ class Tally:
         elif found.entry is not None:
             self.passed += 1
             self.named[found.entry.value] += 1
+            self.cut += found.is_cut
         else:
             self.failed += 1
         self._late = self._late + 1 if found is not None and found.is_late else 0
@@ -77,6 +80,14 @@ class Tally:
     def runs(self) -> int:
         """How many runs were counted."""
         return self.passed + self.failed
+
+    def lines(self) -> List[str]:
+        """How many runs that passed differ by which entry, and how they go on behind it."""
+        said = [f"{count} differ as docs/TWISTED.md says: {name}" for name, count in sorted(self.named.items())]
+        differ = sum(self.named.values())
+        if differ:
+            said.append(f"{self.passed - differ} the same, {differ - self.cut} the same behind an entry, {self.cut} cut at one")
+        return said
 
     def given_up(self) -> Optional[str]:
         """Why no more scripts are asked; None where they are."""
@@ -164,9 +175,7 @@ class Conforming:
     def _compare_random(self) -> Optional[str]:
         """Compares random scripts, and cuts those down that are shown; why it has given up, where it has."""
         seed = self._arguments.seed
-        scripts = Scripts(seed, self._level)
-        for number in range(self._arguments.random):
-            script = scripts.script(number)
+        for number, script in Scripts(seed, self._level).some(self._arguments.random, self._arguments.version):
             found = self._comparison.of_script(script)
             self._count(script, found)
             name = f"random script {number} of seed {seed}, level {self._level}"
@@ -201,22 +210,27 @@ class Conforming:
 
     def _show(self, name: str, script: str, found: Difference) -> None:
         self._progress.clear()
-        entry = f" ({found.entry.value} in docs/TWISTED.md)" if found.entry else ""
-        print(f"{name}: line {found.line} differs{entry}")
+        print(f"{name}: line {found.line} differs{_where(found)}")
         order = f"  --batches '{batches_text(found.order)}'\n" if found.order is not None else ""
-        print(f"  deferreds: {found.ours}\n  command:   {found.theirs}\n{order}  {_one_line(script)}", flush=True)
+        other = "Twisted:  " if found.is_ours else "command:  "
+        print(f"  deferreds: {found.ours}\n  {other} {found.theirs}\n{order}  {_one_line(script)}", flush=True)
 
     def _tell(self, why: Optional[str]) -> None:
         """The last lines."""
         lines: List[str] = self._causes.lines()
-        lines += [
-            f"{count} differ as docs/TWISTED.md says: {name}" for name, count in sorted(self._tally.named.items())
-        ]
+        lines += self._tally.lines()
         lines += self._orders.lines() if self._orders is not None else []
         left = self._total - self._tally.runs
         if why is not None and left:
             lines.append(f"{left} of {self._total} runs are left out, since {why}")
         print("\n".join([*lines, f"{self._tally.passed} passed, {self._tally.failed} failed"]), flush=True)
+
+
+def _where(found: Difference) -> str:
+    """The part that docs/TWISTED.md has in a difference."""
+    if found.entry is not None:
+        return f" ({found.entry.value} in docs/TWISTED.md)"
+    return "" if found.behind is None else f" behind {found.behind.value}, which docs/TWISTED.md doesn't say"
 
 
 def _one_line(script: str) -> str:

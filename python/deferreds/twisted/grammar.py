@@ -320,3 +320,12 @@ def has(level: str, part: str) -> bool:
     """Whether a level has what another one adds: it is that one, or comes after it."""
     names = list(LEVELS)
     return names.index(level) >= names.index(part)
+
+
+#: the level that adds the scripts of a version
+_LEVEL_OF_VERSION: Dict[int, str] = {1: _LEVELS[0], 2: "pools", 3: "version-3"}
+
+
+def has_version(level: str, version: int) -> bool:
+    """Whether random scripts of a level may be of a version."""
+    return has(level, _LEVEL_OF_VERSION[version])

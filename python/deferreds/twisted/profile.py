@@ -22,6 +22,7 @@ class Entry(enum.Enum):
     DELAY_BOUNDS = "delay-bounds"
     LOOP_FIRED_BY_HAND = "loop-fired-by-hand"
     SKIPPED_TURN = "skipped-turn"
+    JOIN_AFTER_THE_LAST = "join-after-the-last"
     TICK_SCHEDULED_IN_A_TICK = "tick-scheduled-in-a-tick"
     REFUSED_WHEN_DONE = "refused-when-done"
     TASK_ENDED_TWICE = "task-ended-twice"

@@ -4,7 +4,10 @@ from __future__ import annotations
 
 import json
 import random
-from typing import Any, Callable, Dict, List, Optional, Union
+from functools import lru_cache
+from itertools import count, islice
+from pathlib import Path
+from typing import Any, Callable, Dict, Iterator, List, Optional, Tuple, Union
 
 from . import grammar
 from .grammar import Kind
@@ -67,9 +70,22 @@ _BODIES = ("f", "g", "h")
 #: what the names of a script with marks end with
 _MARKS = "-1.a:"
 
+#: events that some scripts have, by what happens in them. `$a` is a name, and `$W` that of a Cooperator; `?value`, `?body`, `?end`,
+#: `?leaving`, `?name` and `?action` stand for a random value, body, END, END of an inline body, name of a Deferred, and action
+SCENES = Path(__file__).resolve().parent / "data" / "scenes.json"
+
+Scene = List[List[Any]]
+
 _CLASSES = ("ValueError", "TypeError", "CancelledError", "Exception", "Mine", "AlreadyCalledError")
 _TEXTS = ("x", "", "no")
 _DEEPEST = 3
+
+
+@lru_cache(maxsize=None)
+def scenes(path: Path = SCENES) -> Dict[str, Scene]:
+    """The scenes of a file."""
+    found: Dict[str, Scene] = json.loads(path.read_text(encoding="utf-8"))
+    return found
 
 
 class Scripts:
@@ -88,6 +104,14 @@ class Scripts:
         self._is_third = False
         self._marks = ""
         self._makers: Dict[Kind, Callable[[int], Any]] = self._kinds()
+        self._holes: Dict[str, Callable[[], Any]] = {
+            "?value": lambda: self._value(1),
+            "?body": lambda: self._body(1),
+            "?end": lambda: self._end(grammar.ENDS, 1),
+            "?leaving": lambda: self._end(grammar.INLINE_ENDS, 1),
+            "?name": lambda: self._name("DEFERRED", 0),
+            "?action": lambda: self._action(1),
+        }
 
     def _take_words(self, version: int) -> None:
         """Has actions be those of the level that a version has; only with a pool or a Cooperator is one used."""
@@ -122,10 +146,19 @@ class Scripts:
             root["callers"] = posts
         events = self._beginning()
         events += [self._event() for _ in range(self._random.randint(3, 16))]
+        if self._one_in(2):
+            events += self._scene()
+            events += [self._event() for _ in range(self._random.randint(0, 3))]
         if self._is_third and self._one_in(2):
             events += [self._expect() for _ in range(3)]
         root["events"] = self._repeated(events) if self._is_third and self._one_in(3) else events
         return json.dumps(root, separators=(",", ":"))
+
+    def some(self, number: int, version: Optional[int] = None) -> Iterator[Tuple[int, str]]:
+        """So many scripts, each with its own number: the first ones, or the first of a version that the level has."""
+        numbered = ((each, self.script(each)) for each in count())
+        fitting = (pair for pair in numbered if version is None or f'"version":{version},' in pair[1])
+        return islice(fitting, number)
 
     def _version(self, root: Dict[str, Any]) -> None:
         """The version of the script, and its pools where it has some."""
@@ -170,6 +203,38 @@ class Scripts:
             # calls to be reset, beside what else is due then
             events += [["later", name + self._marks, self._delay(), self._body(0)] for name in _NAMES["CALL"]]
         return events
+
+    def _scene(self) -> List[List[Any]]:
+        """A scene that the level and the version have, with some random events in it."""
+        known = [scene for scene in scenes().values() if all(map(self._has_word, _words_of(scene)))]
+        events: List[List[Any]] = []
+        for event in self._random.choice(known) if known else ():
+            events.append(self._filled(event))
+            if self._one_in(5):
+                events.append(self._event())
+        return events
+
+    def _has_word(self, word: str) -> bool:
+        """Whether an action, an end or a statement, or a form of one, may be used."""
+        name, _, form = word.partition(" ")
+        if name == "advance":
+            return self._has("clock")
+        if name in grammar.ACTIONS:
+            return name in self._words and grammar.ACTIONS_SINCE.get((name, int(form)), 1) <= self._version_of
+        return max(_SINCE.get(name, 1), grammar.TURNS_SINCE if name == "turns" else 1) <= self._version_of
+
+    def _filled(self, part: Any) -> Any:
+        """A part of a scene, with names and random parts in the place of its signs."""
+        if isinstance(part, list):
+            return [self._filled(each) for each in part]
+        if isinstance(part, dict):
+            return {key: self._filled(each) for key, each in part.items()}
+        if part == "$W":
+            return self._random.choice(self._cooperators)
+        if isinstance(part, str) and part.startswith("$"):
+            return part[1:] + self._marks
+        make = self._holes.get(part) if isinstance(part, str) else None
+        return part if make is None else make()
 
     def _one_in(self, number: int) -> bool:
         return self._random.randrange(number) == 0
@@ -335,6 +400,25 @@ class Scripts:
             # only a result shows what was caught
             statement[-1] = [["caught"], ["end", ["pass"]]]
         return statement
+
+
+#: the first version of ends and statements
+_SINCE: Dict[str, int] = {word: since for table in (grammar.ENDS_SINCE, grammar.STATEMENTS_SINCE) for (word, _), since in table.items()}
+
+
+def _words_of(part: Any) -> Iterator[str]:
+    """The words with which arrays of a scene begin, each action with the number of its arguments."""
+    if isinstance(part, dict):
+        for each in part.values():
+            yield from _words_of(each)
+    if not isinstance(part, list):
+        return
+    if part and isinstance(part[0], str):
+        yield f"{part[0]} {len(part) - 1}"
+        if part[0] == "loop" and isinstance(part[-1], list):
+            yield "turns"
+    for each in part:
+        yield from _words_of(each)
 
 
 def _holds_bodies(word: str) -> bool:

@@ -20,6 +20,9 @@ NOT_RUN = {"wrong.rows", "why.rows"}
 #: where the repository has its files of rows, and where an installed package has them
 ROWS = TOP / "crates" / "test_rows" / "data"
 PACKAGED = Path(__file__).resolve().parents[1] / "rows"
+#: rows that are here for the comparison with Twisted, among them those of the entries of docs/TWISTED.md, on which Twisted does otherwise
+_HERE = Path(__file__).resolve().parent / "data"
+ENTRIES = _HERE / "entries.rows"
 
 
 class Expected(NamedTuple):
@@ -83,7 +86,8 @@ def _scripts(lines: List[str]) -> Iterator[str]:
 def row_files() -> List[Path]:
     """The files of rows, whose runs end and print as the rows say: an installed package holds those of the repository."""
     folder = PACKAGED if PACKAGED.is_dir() else ROWS
-    return [path for path in sorted(folder.glob("*.rows")) if path.name not in NOT_RUN]
+    files = [*sorted(folder.glob("*.rows")), *sorted(_HERE.glob("*.rows"))]
+    return [path for path in files if path.name not in NOT_RUN]
 
 
 def written(rows: List[Expected]) -> str:

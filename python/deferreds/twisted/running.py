@@ -2,13 +2,30 @@
 
 from __future__ import annotations
 
+import collections
 import contextlib
 import sys
 import threading
 import warnings
 from bisect import bisect_left
 from collections import deque
-from typing import Any, Callable, Deque, Dict, Generator, Iterator, List, NoReturn, Optional, Sequence, Tuple, Union
+from typing import (
+    AbstractSet,
+    Any,
+    Callable,
+    Collection,
+    Counter,
+    Deque,
+    Dict,
+    Generator,
+    Iterator,
+    List,
+    NoReturn,
+    Optional,
+    Sequence,
+    Tuple,
+    Union,
+)
 
 from twisted.internet import defer, task, threads
 from twisted.internet.defer import Deferred
@@ -23,6 +40,8 @@ from .instruments import install, locks, queues
 from .instruments.clock import run_due
 from .instruments.tasks import Cooperating, know
 from .profile import Entry
+from .rules import holding
+from .rules.cooperators import cooperator_class
 from .script import Script, read
 from .telling import Action, Line, Observer, Part, Record, Stopped, Thing, Time, lines_of, weight
 from .texts import Outcome, Text, compact, weight_of
@@ -53,6 +72,8 @@ class Run:
         self.outcomes = outcomes
         self.status = status
         self.quirks: List[Tuple[int, Entry]] = []
+        #: how often what happened of which no line tells, by names that python/data/cases.txt has
+        self.seen: Counter[str] = collections.Counter()
 
     @property
     def stopped(self) -> bool:
@@ -194,9 +215,11 @@ class Steps:
 class _Leaving:
     """An inline body is left by an `end`, on what was the present value there."""
 
-    def __init__(self, end: List[Any], present: object) -> None:
+    def __init__(self, end: List[Any], present: object, inside: Collection[str]) -> None:
         self.end = end
         self.present = present
+        #: `try` and `finally`, where it stands in the first statements of one
+        self.inside = frozenset(inside)
 
 
 class _Left(Exception):
@@ -215,6 +238,8 @@ class _Inline:
         self.present: object = None
         #: the exceptions that an `except` or a `finally` of the body handles, the innermost last
         self.handled: List[BaseException] = []
+        #: the words `try` and `finally` in whose first statements it is, the innermost last
+        self.inside: List[str] = []
 
 
 #: statements of an inline body that run: they end past the last one, or leave the body
@@ -222,11 +247,21 @@ _Running = Generator[Deferred[Any], Any, Optional[_Leaving]]
 
 
 class Player:
-    """Performs a script on real Twisted. `batches` are the posts that each drain takes, and those at the end."""
+    """Performs a script on real Twisted. `batches` are the posts that each drain takes, and those at the end.
 
-    def __init__(self, script: Script, batches: Optional[Batches] = None, errors_end_advances: bool = False) -> None:
+    At the entries of `rules` it does what `deferreds` does, and not what Twisted does.
+    """
+
+    def __init__(
+        self,
+        script: Script,
+        batches: Optional[Batches] = None,
+        errors_end_advances: bool = False,
+        rules: AbstractSet[Entry] = frozenset(),
+    ) -> None:
         self.script = script
         self._errors_end_advances = errors_end_advances
+        self._rules = rules
         self.teller = Teller(script.limit, script.root["version"])
         for name, parent in script.classes:
             self.teller.classes.declare(name, parent)
@@ -246,11 +281,12 @@ class Player:
         self.pools = {name: Pool() for name in script.pools}
         self.batches: Optional[Iterator[Sequence[Post]]] = None if batches is None else iter(batches)
         self.taken = [0] * len(script.callers)
+        self._seen: Counter[str] = collections.Counter()
 
     def run(self) -> Run:
         """Performs all events, and tells what came of them."""
         status = OVER
-        with self.teller.watching():
+        with holding(self._rules), self.teller.watching():
             try:
                 for event in self.script.events:
                     self._event(event)
@@ -264,13 +300,15 @@ class Player:
         lines = list(lines_of(teller.parts))
         journal = [rendered(line, teller.records) for _, line in lines]
         run = Run(journal, teller.outcomes or [], status)
+        run.seen = self._seen
         places = [place for place, _ in lines]
-        run.quirks = [(bisect_left(places, place), entry) for place, entry in teller.quirks]
+        quirks = [(place, entry) for place, entry in teller.quirks if entry not in self._rules]
+        run.quirks = [(bisect_left(places, place), entry) for place, entry in quirks]
         return run
 
     def _cooperator(self, name: Optional[str], delay: int) -> task.Cooperator:
         """A Cooperator whose ticks are so far from each other."""
-        return task.Cooperator(
+        return cooperator_class(self._rules)(
             terminationPredicateFactory=lambda: self._terminator(name),
             scheduler=lambda tick: self.clock.callLater(delay, tick),
         )
@@ -377,9 +415,19 @@ class Player:
         """Performs a body on what it is given."""
         if isinstance(body, str):
             return self._run_body(body, given, here)
-        for action in body.get("do", ()):
-            self._action(action, here)
+        with self._counting("body raises"):
+            for action in body.get("do", ()):
+                self._action(action, here)
         return self._end(body.get("end", ("pass",)), given, here)
+
+    @contextlib.contextmanager
+    def _counting(self, failure: str) -> Iterator[None]:
+        """Counts a failure that is raised here, by this name."""
+        try:
+            yield
+        except Exception:
+            self._seen[failure] += 1
+            raise
 
     def _end(self, end: Sequence[Any], given: object, here: Optional[Deferred[Any]]) -> Any:
         word = end[0]
@@ -426,10 +474,13 @@ class Player:
     def _trap(self, given: object, classes: List[str], value: object) -> object:
         if not isinstance(given, Failure):
             raise self.teller.classes.make("TypeError", "trap")
+        self._seen["trap left"] += not classes
         if not classes:
             return given
         trap: Callable[..., object] = given.trap
-        trap(*[self.teller.classes.get(name) for name in classes])
+        with self._counting("trap left"):
+            trap(*[self.teller.classes.get(name) for name in classes])
+        self._seen["trap taken"] += 1
         return value
 
     def _throw(self, given: object, path: List[int]) -> object:
@@ -439,6 +490,7 @@ class Player:
             found = found[place] if isinstance(found, (list, tuple)) and place < len(found) else None
         if not isinstance(found, Failure):
             raise self.teller.classes.make("TypeError", "throw")
+        self._seen["throw found"] += 1
         raises: Callable[[], object] = found.raiseException
         return raises()
 
@@ -476,6 +528,7 @@ class Player:
 
     def _action(self, action: List[Any], here: Optional[Deferred[Any]]) -> None:
         self._go_on()
+        self._seen[f"action {action[0]}"] += 1
         if action[0] in _ON_DEFERREDS:
             deferreds = [self._deferred(name, here) for name in _deferreds_of(action)]
             _ON_DEFERREDS[action[0]](self, action, *deferreds)
@@ -490,7 +543,9 @@ class Player:
             return
 
         def canceller(deferred: Deferred[Any]) -> None:
-            self._body(action[2], None, deferred)
+            self._seen["canceller"] += 1
+            with self._counting("canceller fails"):
+                self._body(action[2], None, deferred)
 
         Deferred(canceller)
 
@@ -532,7 +587,12 @@ class Player:
             deferred.addTimeout(action[2], clock)
             return
         handle = self._side(action[3], deferred)
-        deferred.addTimeout(action[2], clock, lambda result, timeout: handle(result))
+
+        def handled(result: object, timeout: object) -> Any:
+            self._seen["time-out handled"] += 1
+            return handle(result)
+
+        deferred.addTimeout(action[2], clock, handled)
 
     def _list(self, action: List[Any], *children: Deferred[Any]) -> None:
         self._naming(action[1])
@@ -686,46 +746,69 @@ class Player:
         self, statements: List[Any], mine: List[Deferred[Any]]
     ) -> Generator[Deferred[Any], Any, Any]:
         """The generator of an inline body; what its END gives is made outside of all its tries."""
+        self._seen["inline"] += 1
         body = _Inline(mine[0])
         leaving = yield from self._statements(statements, body)
-        return None if leaving is None else self._end(leaving.end, leaving.present, body.deferred)
+        if leaving is None:
+            return None
+        with contextlib.ExitStack() as counting:
+            for word in leaving.inside:
+                counting.enter_context(self._counting(f"end fails in a {word}"))
+            return self._end(leaving.end, leaving.present, body.deferred)
 
     def _statements(self, statements: List[Any], body: _Inline) -> _Running:
         for statement in statements:
             word = statement[0]
             leaving: Optional[_Leaving] = None
             if word == "do":
-                self._action(statement[1], body.deferred)
+                self._seen["statement do"] += 1
+                with self._counting("do raises"):
+                    self._action(statement[1], body.deferred)
             elif word == "await":
-                body.present = yield self._deferred(statement[1], body.deferred)
+                with self._counting("await unbound"):
+                    awaited = self._deferred(statement[1], body.deferred)
+                body.present = yield awaited
                 self._go_on()
             elif word == "try":
                 leaving = yield from self._try(statement, body)
             elif word == "finally":
                 leaving = yield from self._finally(statement, body)
             elif word == "raise":
-                self._need_active(body)
+                self._need_active(body, word)
                 raise
             elif word == "caught":
-                self._need_active(body)
+                self._need_active(body, word)
                 body.present = [_Failure(sys.exc_info()[1])]
             else:
-                return _Leaving(statement[1], body.present)
+                return _Leaving(statement[1], body.present, body.inside)
             if leaving is not None:
                 return leaving
         return None
 
-    def _need_active(self, body: _Inline) -> None:
+    def _need_active(self, body: _Inline, word: str) -> None:
         """Raises RuntimeError where the body handles no exception. Python would take one that a caller handles."""
+        self._seen[f"{word} {'active' if body.handled else 'none'}"] += 1
         if not body.handled:
             raise self.teller.classes.make("RuntimeError", "no active exception")
+
+    def _first(self, statement: List[Any], body: _Inline) -> _Running:
+        """The first statements of a `try` or a `finally`."""
+        body.inside.append(statement[0])
+        try:
+            return (yield from self._statements(statement[1], body))
+        finally:
+            body.inside.pop()
 
     def _try(self, statement: List[Any], body: _Inline) -> _Running:
         classes = tuple(self.teller.classes.get(name) for name in statement[2])
         try:
-            return (yield from self._statements(statement[1], body))
+            return (yield from self._first(statement, body))
         except classes as error:  # type: ignore[misc]
+            self._seen["try caught"] += 1
             return (yield from self._second(statement[3], body, error))
+        except Exception:
+            self._seen["try passed"] += 1
+            raise
 
     def _second(
         self, statements: List[Any], body: _Inline, error: Optional[BaseException]
@@ -745,20 +828,25 @@ class Player:
         try:
             return (yield from self._in_finally(statement, body))
         except _Left as left:
+            self._seen["finally replaced"] += 1
             return left.leaving
 
     def _in_finally(self, statement: List[Any], body: _Inline) -> _Running:
         thrown: Optional[BaseException] = None
+        first: Optional[_Leaving] = None
         try:
-            return (yield from self._statements(statement[1], body))
+            first = yield from self._first(statement, body)
+            return first
         except BaseException as error:
             thrown = error
             raise
         finally:
             # the second statements run in no generator that is closed, and in no run that has stopped
             if not isinstance(thrown, (GeneratorExit, Stopped)):
+                self._seen[f"finally {'thrown' if thrown else 'left' if first else 'ended'}"] += 1
                 present = body.present
-                leaving = yield from self._second(statement[2], body, thrown)
+                with self._counting("finally fails"):
+                    leaving = yield from self._second(statement[2], body, thrown)
                 if leaving is not None:
                     raise _Left(leaving)
                 body.present = present
@@ -866,12 +954,17 @@ _OTHERS: Dict[str, Callable[[Player, List[Any], Optional[Deferred[Any]]], None]]
 }
 
 
-def run(data: bytes, batches: Optional[Batches] = None, errors_end_advances: bool = False) -> Run:
+def run(
+    data: bytes,
+    batches: Optional[Batches] = None,
+    errors_end_advances: bool = False,
+    rules: AbstractSet[Entry] = frozenset(),
+) -> Run:
     """Reads a script, and runs it on real Twisted. An error of a delayed call ends an advance, as with Twisted's Clock, only if that is
-    asked for."""
+    asked for. At the entries of `rules` the run is that of `deferreds`."""
     script = read(data, list(BUILT_IN))
     install()
-    return Player(script, batches, errors_end_advances).run()
+    return Player(script, batches, errors_end_advances, rules).run()
 
 
 def be_quiet() -> None:

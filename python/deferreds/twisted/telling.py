@@ -813,6 +813,12 @@ class Observer:
     def locate_action(self, action: Action, inside: int) -> None:
         """Notes where the program is, if that is where an action will have run. So many frames, from the caller's on, aren't its."""
 
+    def note_made(self, thing: Thing, made_at: Any) -> None:
+        """Notes where the lock or the queue was made that has this name, if that is known."""
+
+    def note_call(self, action: Action, body: Any) -> None:
+        """Notes what the generator or the coroutine of an inline body was called with, which the action is about to begin."""
+
     def locate_await(self, awaited: Any, generator: Any) -> None:
         """Notes where the generator or the coroutine of an inline body stands, which awaits."""
 

@@ -27,6 +27,7 @@ from ..checkout import as_called, command_name
 from ..ending import say
 from .batches import NotBatches, parse_batches
 from .names import STANDARD, TRACE
+from .sizes import MOST_LINES
 
 
 def parsed(words: List[str]) -> argparse.Namespace:
@@ -104,8 +105,8 @@ def parsed(words: List[str]) -> argparse.Namespace:
     add("--most", type=int, metavar="N", help=f"with --orders: run at most N orders ({ORDERS}; {MOST_ORDERS} may be asked for)")
     add("--sample", type=int, metavar="K", help=f"with --orders: run K orders, each drawn from all (1 to {MOST_ORDERS})")
     add("--seed", type=int, metavar="S", help=f"with --sample: the seed of the draws (0 to {MOST_SEED})")
-    add("--from", dest="first", type=int, metavar="N", help="the first line that the chart shows (1)")
-    add("--to", dest="last", type=int, metavar="N", help="the last line (5000 lines at most)")
+    add("--from", dest="first", type=int, metavar="N", help="the first line that the page has (1)")
+    add("--to", dest="last", type=int, metavar="N", help=f"the last line ({MOST_LINES} lines at most)")
     add("scripts", nargs="*", metavar="SCRIPT", help="a script")
     options = parser.parse_args(words)
     wrong = _mistake(options)

@@ -7,7 +7,7 @@ from typing import Any, Dict, List, Optional
 
 from .findings import Finding
 from .phrases import OfDeferred, OfPlace, Phrase
-from .places import Place
+from .places import Frame, Place
 from .run import Run
 from .sites import Site
 from .terminal import Terminal
@@ -56,6 +56,7 @@ class AsJson:
         return {
             **_place(site.place),
             "function": site.function,
+            "by": _frame(site.by) if site.by is not None else None,
             "made": len(site.records),
             "ended": site.ends,
             "median": self._time(site.median),
@@ -72,6 +73,7 @@ class AsJson:
             "line": record.row + 1,
             "end": record.end,
             "unfired": self._time(self._run.inferred.sites.unfired(record)),
+            "stack": [[_frame(frame) for frame in part] for part in self._run.places.stack_of(record.names)],
         }
 
     def _time(self, ticks: int) -> Json:
@@ -86,6 +88,10 @@ def _numbers(phrase: Phrase) -> List[int]:
 
 def _places(phrase: Phrase) -> List[Place]:
     return [part.place for part in phrase if isinstance(part, OfPlace)]
+
+
+def _frame(frame: Frame) -> Json:
+    return {**_place(frame.place), "function": frame.function}
 
 
 def _place(place: Place) -> Json:

@@ -2,7 +2,7 @@
 
 from __future__ import annotations
 
-import io
+import gc
 import os
 import sys
 from functools import partial
@@ -11,15 +11,14 @@ from pathlib import Path
 from typing import TYPE_CHECKING, Callable, Iterator, List, Optional, Set
 
 from ..checkout import command_name
-from ..ending import say, writing
+from ..ending import ended, open_streams, say, writing
 from .arguments import parsed
 from .inputs import NO_INPUT, NO_OUTPUT, Failed, InOrders, Inputs, read_any
-from .long_pages import known_of, long_page
 from .names import ORDERS_PAGE, SAMPLE_PAGE, STANDARD, TRACE, page_name
-from .sizes import said_of_parts
+from .sizes import said_of_part
 from .texts import clipped, visible
 
-# (what reads a run is imported where it is used: most of the time of a page that draws itself would go to that)
+# (what a form needs is imported where it is used)
 if TYPE_CHECKING:
     import argparse
 
@@ -89,21 +88,16 @@ def _is_same(one: str, other: str) -> bool:
 
 
 def _write(text: str, target: str) -> None:
-    """Writes a page or a trace."""
-    _write_bytes(text.encode("utf-8"), target)
-
-
-def _write_bytes(data: bytes, target: str) -> None:
     """Writes a page or a trace, and its folder where that isn't there."""
     if target == STANDARD:
         with writing():
-            sys.stdout.write(data.decode("utf-8"))
+            sys.stdout.write(text)
             sys.stdout.flush()
         return
     try:
         path = Path(target)
         path.parent.mkdir(parents=True, exist_ok=True)
-        path.write_bytes(data)
+        path.write_bytes(text.encode("utf-8"))
     except (OSError, ValueError) as error:
         why = error.strerror if isinstance(error, OSError) else "it is no name of a file"
         raise Failed(NO_OUTPUT, f"{target} can't be written: {why}") from None
@@ -132,18 +126,13 @@ def _print_text(run: Run, asked: Optional[str], only_report: bool) -> None:
 
 
 def _show_page(one: Inputs, arguments: argparse.Namespace, target: str) -> None:
-    told, asked = one.told(), (arguments.first, arguments.last)
-    drawn = long_page(told.source.title, known_of(told.source, *asked), io.BytesIO(told.data)) if not told.source.is_journal else None
-    if drawn is not None:
-        _write_bytes(drawn.page, target)
-        lines, counts = drawn.size.lines, drawn.size.counts(told.source.events, told.source.tick)
-    else:
-        from .pages import page_of
+    from .document import written
+    from .page import Page
 
-        run = told.run()
-        _write(page_of(told.source, told.text, run, *asked), target)
-        lines, counts = len(run.fold.rows), run.counts
-    _say_written(target, counts, said_of_parts(lines, *asked))
+    run = one.run()
+    page = Page(run, arguments.first, arguments.last)
+    _write(written(run.title, page.pieces()), target)
+    _say_written(target, run.counts, said_of_part(len(run.fold.rows), page.rows))
     _open(arguments, target)
 
 
@@ -178,6 +167,13 @@ def _open(arguments: argparse.Namespace, target: str) -> None:
         import webbrowser
 
         webbrowser.open(Path(target).resolve().as_uri())
+
+
+def start(name: str = "view") -> None:
+    """The command, under its name, to the end of the process."""
+    open_streams()
+    gc.disable()  # what a run is made of stays until the end, and looking through it again and again takes an eighth of the time
+    sys.exit(ended(lambda: main(sys.argv[1:]), name))
 
 
 def main(words: List[str]) -> int:
@@ -241,3 +237,7 @@ def _compare(arguments: argparse.Namespace) -> None:
     _write(ComparedPage(compared).html(), target)
     _say(f"{_shown_target(target)}: {compared.verdict}")
     _open(arguments, target)
+
+
+if __name__ == "__main__":
+    start()

@@ -8,7 +8,7 @@ from difflib import SequenceMatcher
 from itertools import zip_longest
 from typing import Dict, Iterator, List, NamedTuple, Optional, Tuple
 
-from .compared_lines import DifferingSite, by_function, differing_sites, masked
+from .compared_lines import DifferingSite, by_function, differing_sites, is_divided, masked
 from .records import By, Record, Row
 from .run import Run
 from .sites import Site
@@ -47,13 +47,15 @@ class Aligned(NamedTuple):
 class Side:
     """One of the two runs, by the keys of its Deferreds; loosely, apart from times and the lines of a program that was recorded."""
 
-    def __init__(self, run: Run, is_loose: bool) -> None:
+    def __init__(self, run: Run, is_loose: bool, divided: bool = False) -> None:
+        """`divided`: whether lines of the program are compared for each caller."""
         self.run = run
         self._is_loose = is_loose
+        self._divided = divided
         things = [*run.fold.world.locks.all, *run.fold.world.loops.all]
         self._things = {f'ok "{thing.name}"' for thing in things}
         #: of a recording, by the number of a Deferred, its function and which line of that function made it
-        lines = by_function(run) if is_loose else {}
+        lines = by_function(run, divided) if is_loose else {}
         self._lines = {record.number: f"{function} {place}" for (function, place), site in lines.items() for record in site.records}
         #: the rows that are compared: loosely, without those in which time goes on, which may be one more where a clock is read later
         self._rows = [row for row in run.fold.rows if not (is_loose and row.entry.word == "advance")]
@@ -109,7 +111,8 @@ class Side:
 
     def site(self, record: Record) -> Optional[Site]:
         """The line of the program that made a Deferred, if that is known."""
-        return self.run.inferred.sites.of.get(record.number)
+        sites = self.run.inferred.sites
+        return (sites.of if self._divided else sites.line_of).get(record.number)
 
     def end(self, record: Record) -> str:
         """The outcome of a Deferred, without whom it waits for."""
@@ -132,8 +135,9 @@ class Compared:
     def __init__(self, first: Run, second: Run) -> None:
         #: whether both were recorded: times of a reactor are never the same twice, and a program that is mended has other lines
         self.is_loose = first.is_recorded and second.is_recorded
-        self.first = Side(first, self.is_loose)
-        self.second = Side(second, self.is_loose)
+        divided = is_divided(first, second)
+        self.first = Side(first, self.is_loose, divided)
+        self.second = Side(second, self.is_loose, divided)
         common = _common(self.first.forms, self.second.forms)
         #: of each run, how many lines come before the first that differs
         self.common = self.first.place_of(common), self.second.place_of(common)

@@ -20,7 +20,7 @@ _MASKS = (
     (re.compile(r"\b\d{4}-\d\d-\d\d[T ]\d\d:\d\d(?::\d\d)?(?:[.,]\d+)?(?:Z|[+-]\d\d:?\d\d)?"), "<time>"),
     (re.compile(r"\b\d\d:\d\d:\d\d(?:[.,]\d+)?\b"), "<time>"),
     (re.compile(r"\b\d{9,10}\.\d+\b"), "<time>"),
-    (re.compile(r"<([A-Za-z_][\w.]*) \d+>"), r"<\1>"),
+    (re.compile(r"<([A-Za-z_][\w.]*) \d+(?=[ >])"), r"<\1"),
     (re.compile(r'"((?:call|cooperator|lock|loop|queue|semaphore|task)_\w*?)_\d+(?:_\d+)?"'), r'"\1"'),
 )
 
@@ -40,19 +40,26 @@ class DifferingSite(NamedTuple):
     second: Optional[Site]
 
 
-def by_function(run: Run) -> Dict[Tuple[str, int], Site]:
+def is_divided(first: Run, second: Run) -> bool:
+    """Whether lines are compared for each caller: an earlier version has recorded none."""
+    return first.places.has_stacks and second.places.has_stacks
+
+
+def by_function(run: Run, divided: bool) -> Dict[Tuple[str, int], Site]:
     """The lines that made Deferreds, by function, and by which line of the function each is."""
     counted: Dict[str, int] = {}
     found: Dict[Tuple[str, int], Site] = {}
-    for site in sorted(run.inferred.sites.all, key=lambda site: site.place):
-        number = counted[site.function] = counted.get(site.function, 0) + 1
-        found[site.function, number] = site
+    sites = run.inferred.sites
+    for site in sorted(sites.all if divided else sites.lines, key=lambda site: site.place):
+        function = f"{site.function}, by {site.by.function}" if site.by is not None else site.function
+        number = counted[function] = counted.get(function, 0) + 1
+        found[function, number] = site
     return found
 
 
 def differing_sites(first: Run, second: Run) -> List[DifferingSite]:
     """The lines whose Deferreds ended otherwise, those with odd ones first."""
-    ones, others = by_function(first), by_function(second)
+    ones, others = (by_function(run, is_divided(first, second)) for run in (first, second))
     pairs = [DifferingSite(key[0], ones.get(key), others.get(key)) for key in dict.fromkeys([*ones, *others])]
     found = [pair for pair in pairs if pair.first is None or pair.second is None or pair.first.ends != pair.second.ends]
     return sorted(found, key=lambda pair: -max(_odd(pair.first), _odd(pair.second)))

@@ -20,6 +20,7 @@ class Severity(enum.Enum):
 class Kind(enum.Enum):
     """What a row of the report tells of, the worst first."""
 
+    SHAKEN = "shaken"
     STOPPED = "stopped"
     UNMET = "unmet"
     CUT = "cut off"

@@ -1,96 +1,56 @@
-// One Deferred is chosen, or a text is looked for: all else fades.
-var chosen = null, sought = "";
-var note = document.getElementById("focus"), column = document.getElementById("column"), find = document.getElementById("find");
-function unmark(name) { all("." + name).forEach(function (element) { element.classList.remove(name); }); }
-function tell() {
-  var said = [], lines = sought && all(".row.hit").length;
-  if (sought) said.push(lines + (lines === 1 ? " line has " : " lines have ") + find.value + whichLines());
-  if (chosen !== null) said.push("#" + chosen);
-  note.hidden = !said.length;
-  note.textContent = said.join(", ") + ": n next line, p the one before, " + (chosen === null ? "Esc ends" : "t ");
-  if (chosen === null) return;
-  var link = made("a", "", "its tree");
-  link.href = "#d=" + chosen;
-  note.append(link, ", Esc ends");
+// One Deferred is followed: all but its rows, lane and arrows fade.
+const note = document.getElementById("focus");
+
+function awaitedBy(number) { return new Set((deferreds.has(number) ? stepsOf(deferreds.get(number)) : []).filter(step => "wck".includes(step.does)).map(step => step.other)); }
+// those that the Deferred awaits, and those that await it
+function relatedTo(number) {
+  const found = awaitedBy(number);
+  deferreds.forEach(one => { if (/[wck][\d,-]*#/.test(one.written) && awaitedBy(one.number).has(number)) found.add(one.number); });
+  found.delete(number);
+  return found;
 }
 function choose(number, kept) {
   chosen = number;
+  related = number === null ? new Set() : relatedTo(number);
   body.classList.toggle("focus", number !== null);
-  unmark("on");
-  column.hidden = number === null;
-  tell();
-  if (number === null) return;
-  all('[data-d~="' + number + '"]').forEach(function (element) { element.classList.add("on"); });
-  unfold(all(".row.on[hidden]"), kept);
-  placeColumn();
+  all("a[data-f]", document.querySelector("main")).forEach(link => link.classList.toggle("on", link.dataset.f === String(number)));
+  note.hidden = number === null;
+  if (number !== null) {
+    const link = made("a", "", "its tree");
+    link.href = "#d=" + number;
+    note.replaceChildren("#" + number + ": n next line, p the one before, t ", link, ", Esc ends");
+    unfold(rowsOf(number), kept);
+  }
+  redraw();
 }
-function placeColumn() {
-  var lane = chosen === null ? null : document.querySelector('[data-x][data-d="' + chosen + '"]');
-  column.hidden = !lane;
-  if (!lane) return;
-  var start = document.querySelector(".head > svg").getBoundingClientRect().left - chart.getBoundingClientRect().left;
-  var top = Number(lane.dataset.y), bottom = top + Number(lane.dataset.h);
-  column.style.left = start + Number(lane.dataset.x) - 13 + "px";
-  column.style.top = heightNow(top) + 22 + "px";
-  column.style.height = heightNow(bottom) - heightNow(top) + "px";
-}
-function seek(text) {
-  var before = sought;
-  sought = text.trim().toLowerCase();
-  if (Boolean(before) !== Boolean(sought) && folds.length) lay();
-  body.classList.toggle("finding", sought !== "");
-  unmark("hit");
-  if (sought) all(".row[id], tr[data-d]").forEach(function (element) {
-    var has = (element.title + " " + element.textContent).toLowerCase().indexOf(sought) >= 0;
-    if (has) element.classList.add("hit");
-  });
-  tell();
-}
-function ask() {
-  find.hidden = false;
-  find.focus();
-  find.select();
-}
-function end() {
-  find.value = "";
-  find.hidden = true;
-  seek("");
-  choose(null);
-  showWhole(null);
-  fell();
-}
+// the rows that name a Deferred
+function rowsOf(number) { return lineRows().filter(row => names(row, number)); }
+// goes to the next row of the Deferred that is followed, or to the one before
 function go(step) {
-  var rows = all(".row:not([hidden])" + (chosen !== null ? ".on" : "") + (sought ? ".hit" : "")), middle = innerHeight / 2, found = null;
-  if (step < 0) rows.reverse();
-  rows.some(function (row) {
-    if ((row.getBoundingClientRect().top - middle) * step > 12) found = row;
-    return found;
-  });
-  if (found) found.scrollIntoView({ block: "center" });
+  const rows = rowsOf(chosen).filter(isRowShown), middle = innerHeight / 2;
+  const next = (step > 0 ? rows : rows.reverse()).find(row => (rowTop(row) - middle) * step > 12);
+  if (next === undefined) return;
+  makeCurrent(next);
+  bringToSight(next, true);
+  keep();
 }
-document.addEventListener("click", function (event) {
-  if (event.target.closest('[href="#find"]')) {
+document.addEventListener("click", event => {
+  if (event.target.closest("[href='#find']")) {
     event.preventDefault();
-    return ask();
+    return askWhat();
   }
-  var link = event.target.closest("[data-f]");
+  const link = event.target.closest("a[data-f]");
   if (!link) return;
-  choose(chosen === link.dataset.f ? null : link.dataset.f, link);
-  if (link.closest("#chart, #tree")) event.preventDefault();
+  // (the rows are drawn anew, and the link with them)
+  const number = Number(link.dataset.f), line = link.closest(".row[id]"), leads = !link.closest("#chart, #tree");
+  event.preventDefault();
+  choose(chosen === number ? null : number, line ? Number(line.id.slice(1)) - 1 : leads ? link : undefined);
+  if (leads && chosen !== null) followLink(link.getAttribute("href"));
+  else keep(true);
 });
-find.addEventListener("input", function () { seek(find.value); });
-document.addEventListener("keydown", function (event) {
-  if (event.ctrlKey || event.metaKey || event.altKey) return;
-  if (event.key === "Escape") return end();
-  if (event.target === find) {
-    if (event.key === "Enter" && sought) go(event.shiftKey ? -1 : 1);
-    return;
-  }
-  if (event.key === "/") {
-    event.preventDefault();
-    return ask();
-  }
-  if (chosen !== null && event.key === "t") location.hash = "d=" + chosen;
-  if ((chosen !== null || sought) && event.key === "n") go(1);
-  if ((chosen !== null || sought) && event.key === "p") go(-1);
+
+// on a narrow screen lanes are folded away
+const lanesButton = button("show the lanes", "act lanes", () => {
+  lanesButton.textContent = body.classList.toggle("lanes") ? "fold the lanes away" : "show the lanes";
 });
+document.getElementById("what").append(" ", lanesButton);

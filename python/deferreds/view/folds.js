@@ -1,65 +1,69 @@
-// Folds: rows that are hidden as long as the row which stays is shut.
-var KINDS = { p: "its pairs", w: "callbacks without effect", k: "releases a token", l: "schedules the next turn", s: "" };
-var folds = [], foldNote = document.getElementById("folds"), closed = [];
-function makeFolds() {
-  folds = [];
-  closed = [];
-  foldNote.hidden = true;
-  slots.forEach(function (row, slot) { if (row.dataset.g) makeFold(row, slot); });
-  if (folds.length) layFolds();
-}
-function makeFold(row, slot) {
-  row.dataset.g.split(" ").forEach(function (word) {
-    var parts = /^([a-z])(?:(\d+)\.)?(-?\d+)$/.exec(word), count = Number(parts[3]);
-    var fold = { slot: slot, from: count > 0 ? slot + 1 : slot + count, to: count > 0 ? slot + 1 + count : slot, shut: foldNote.dataset.shut !== undefined, button: made("button", "fold") };
-    fold.lines = slots.slice(fold.from, fold.to).filter(function (one) { return one.id; }).length;
-    fold.says = (parts[1] === "s" ? row.querySelector(".t").textContent + ", " + parts[2] + " times" : KINDS[parts[1]]) + ": " + several(fold.lines, "line", "lines");
-    fold.button.type = "button";
-    fold.button.addEventListener("click", function (event) {
-      event.stopPropagation();
-      fold.shut = !fold.shut;
-      layFolds(row);
-    });
-    row.insertBefore(fold.button, row.querySelector(".t").nextSibling);
+// Folds: rows that are hidden as long as the row which stays is shut; and rows of Twisted's own, which are hidden at first.
+const FOLDS = { p: "its pairs", w: "callbacks without effect", k: "releases a token", l: "schedules the next turn" };
+const foreign = new Set(data.foreign);
+let onlyMine = foreign.size > 0;
+const folds = [], foldsOfRow = new Map(), foldNote = document.getElementById("folds");
+let closed = new Uint8Array(stop - first);
+
+(function makeFolds() {
+  data.folds.forEach(one => {
+    const fold = { kind: one[0], row: one[1], first: one[2], last: one[3], times: one[4], shut: data.shut, lines: 0 };
+    for (let slot = slotAt(fold.first); slot <= slotAt(fold.last); slot += 1) if (slots[slot].kind === LINE) fold.lines += 1;
     folds.push(fold);
+    foldsOfRow.set(fold.row, [...(foldsOfRow.get(fold.row) || []), fold]);
   });
+  closeRows();
+})();
+sieves.fold = row => !closed[row - first] || hits !== null || Boolean(sieves.tree || sieves.kind);
+
+sieves.mine = row => !onlyMine || !foreign.has(row) || hits !== null || Boolean(sieves.tree || sieves.kind);
+
+function foldsAt(row) { return foldsOfRow.get(row) || []; }
+function foldButton(fold) {
+  const what = fold.kind === "s" ? lineText(fold.row) + ", " + fold.times + " times" : FOLDS[fold.kind];
+  const one = button((fold.shut ? "▸ " : "▾ ") + what + ": " + several(fold.lines, "line", "lines"), "fold", event => {
+    event.stopPropagation();
+    fold.shut = !fold.shut;
+    layFolds(fold.row);
+  });
+  one.setAttribute("aria-expanded", String(!fold.shut));
+  one.tabIndex = -1;
+  return one;
 }
-sieves.fold = function (slot) { return !closed[slot] || Boolean(sought || sieves.tree || sieves.kind); };
+function closeRows() {
+  closed = new Uint8Array(stop - first);
+  folds.forEach(fold => { if (fold.shut) closed.fill(1, fold.first - first, fold.last + 1 - first); });
+}
 function layFolds(kept) {
-  closed = new Array(slots.length);
-  folds.forEach(function (fold) {
-    fold.button.textContent = (fold.shut ? "▸ " : "▾ ") + fold.says;
-    fold.button.setAttribute("aria-expanded", String(!fold.shut));
-    if (fold.shut) for (var slot = fold.from; slot < fold.to; slot += 1) closed[slot] = true;
-  });
+  closeRows();
   lay(kept);
   tellFolds();
 }
 function tellFolds() {
-  if (!folds.length) return;
-  var hidden = slots.filter(function (row, slot) { return row.id && closed[slot]; }).length, open = folds.some(function (fold) { return !fold.shut; });
-  var said = hidden ? several(hidden, "line is", "lines are") + " folded away, in " + several(folds.filter(function (fold) { return fold.shut; }).length, "fold", "folds") + ". " : "";
+  if (!folds.length && !foreign.size) return;
+  const hidden = slots.filter(slot => slot.kind === LINE && closed[slot.row - first]).length, shut = folds.filter(fold => fold.shut).length;
   foldNote.hidden = false;
-  foldNote.replaceChildren(said);
-  if (hidden) foldNote.append(act("open all", false), " ");
-  if (open) foldNote.append(act("fold built-in pairs, callbacks without effect and equal turns", true));
+  foldNote.replaceChildren(hidden ? several(hidden, "line is", "lines are") + " folded away, in " + several(shut, "fold", "folds") + ". " : "");
+  if (hidden) foldNote.append(button("open all", "act", () => shutAll(false)), " ");
+  if (shut < folds.length) foldNote.append(button("fold built-in pairs, callbacks without effect and equal turns", "act", () => shutAll(true)));
+  if (!foreign.size) return;
+  foldNote.append(onlyMine ? several(foreign.size, "line is", "lines are") + " of no file of the program. " : "");
+  foldNote.append(button(onlyMine ? "show them" : "only my files", "act", () => showForeign(onlyMine)));
 }
-function act(text, shut) {
-  var button = made("button", "act", text);
-  button.type = "button";
-  button.addEventListener("click", function () {
-    folds.forEach(function (fold) { fold.shut = shut; });
-    layFolds(button);
-  });
-  return button;
+function showForeign(shown) {
+  onlyMine = !shown;
+  lay(foldNote);
+  tellFolds();
 }
-// opens what hides one of these rows; whether anything did
+function shutAll(shut) {
+  folds.forEach(fold => { fold.shut = shut; });
+  layFolds(foldNote);
+}
+// opens what hides one of these rows
 function unfold(rows, kept) {
-  var at = rows.map(function (row) { return slotOf.get(row); }).filter(function (slot) { return slot !== undefined && closed[slot]; });
-  folds.forEach(function (fold) {
-    if (fold.shut && at.some(function (slot) { return fold.from <= slot && slot < fold.to; })) fold.shut = false;
-  });
-  if (at.length) layFolds(kept);
-  return at.length > 0;
+  if (onlyMine && rows.some(row => foreign.has(row))) showForeign(true);
+  const hidden = rows.filter(row => isHere(row) && closed[row - first]);
+  if (!hidden.length) return;
+  folds.forEach(fold => { if (fold.shut && hidden.some(row => fold.first <= row && row <= fold.last)) fold.shut = false; });
+  layFolds(kept);
 }
-makeFolds();

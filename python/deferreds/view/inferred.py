@@ -68,7 +68,7 @@ class Inferred:
     def _note_bodies(self, bodies: Bodies) -> None:
         """Notes what each body made at each line."""
         for record in self._fold.records.values():
-            site, body = self.sites.of.get(record.number), bodies.acting.get(record.row)
+            site, body = self.sites.line_of.get(record.number), bodies.acting.get(record.row)
             if site is not None and body is not None:
                 self._made_by.setdefault((site.place, body), []).append(record)
 
@@ -95,9 +95,10 @@ class Inferred:
         for link in ring:
             body = self._fold.records[link.held.body or 0]
             name, awaited = self._fold.world.locks.all[link.lock].name, self._fold.world.locks.all[link.awaited].name
-            took = words(OfDeferred(body.number), f" took {name}", *self._at(link.held.deferred))
+            took = words(*self.body(body.number), f" took {name}", *self._at(link.held.deferred))
             details.append((*took, f", and awaits {awaited}", *self.awaits_at(body)))
-        return Finding(Severity.BAD, Kind.CIRCLE, said, details_of(details, waiting), ring[0].held.row)
+        made = [phrase for name in dict.fromkeys(locks) for phrase in self.thing_made_at(name)]
+        return Finding(Severity.BAD, Kind.CIRCLE, said, details_of(details, made, waiting), ring[0].held.row)
 
     def token(self, one: LeftTokens, lock: Lock, waiting: Sequence[Phrase]) -> Finding:
         """The tokens of a lock that are held at the end, with who waits for one."""
@@ -111,12 +112,12 @@ class Inferred:
         said: Phrase = (f"{one.given} of {several(one.tokens, 'token', 'tokens')} of {lock.name} {is_held}",)
         lost = next((held for held in holders.held if self._is_lost(held)), None)
         if lost is None or lost.body is None:
-            details = details_of([counts], [self._holds(held) for held in holders.held[:_MOST_HELD]], guess, waiting)
+            details = details_of(self.thing_made_at(lock.name), [counts], [self._holds(held) for held in holders.held[:_MOST_HELD]], guess, waiting)
             return Finding(Severity.LEFT, Kind.TOKEN, said, details, first.row if first is not None else lock.row)
         severity = Severity.BAD if waiting or self._failed(lost.body) else Severity.LEFT
         rest = [self._holds(held) for held in holders.held if held is not lost]
-        details = details_of([self._ended(lost.body)], rest[:_MOST_HELD], guess, [(*said, ": ", *counts)], waiting)
-        taken = words(OfDeferred(lost.body), f" took a token of {lock.name}", *self._at(lost.deferred), " and never released it")
+        details = details_of([self._ended(lost.body)], self.thing_made_at(lock.name), rest[:_MOST_HELD], guess, [(*said, ": ", *counts)], waiting)
+        taken = words(*self.body(lost.body), f" took a token of {lock.name}", *self._at(lost.deferred), " and never released it")
         return Finding(severity, Kind.HELD, taken, details, lost.row)
 
     def _is_lost(self, held: Held) -> bool:
@@ -129,8 +130,47 @@ class Inferred:
 
     def _at(self, number: int) -> Phrase:
         """Where in the program a Deferred was made, as the end of a sentence, if that is known."""
-        place = self._places.of_deferred(self._fold.records[number].names)
+        place = self.place_of(self._fold.records[number])
         return words(" at ", OfPlace(place)) if place is not None else words()
+
+    def place_of(self, record: Record) -> Optional[Place]:
+        """The line of the program that counts where a Deferred was made: that of the caller, if several have called the line that made it."""
+        site = self.sites.of.get(record.number)
+        return site.place if site is not None else None
+
+    def body(self, number: int) -> Phrase:
+        """An inline body by what it was called with, if that is known, and by its Deferred."""
+        call = self._places.call_of(self._fold.records[number].names)
+        return words(OfScript(call), " (", OfDeferred(number), ")") if call else words(OfDeferred(number))
+
+    def called(self, record: Record) -> List[Phrase]:
+        """What the inline body of a Deferred was called with, if that is known."""
+        call = self._places.call_of(record.names)
+        return [("called as ", OfScript(call))] if call else []
+
+    def thing_made_at(self, name: str) -> List[Phrase]:
+        """What a lock or a queue is bound to in the program, and where it was made, as far as that is known."""
+        place = self._places.of_thing(name)
+        if place is None:
+            return []
+        bound = self._places.bound_at(place)
+        said = words(f"{name} is ", OfScript(bound), ", made at ") if bound else words(f"{name} was made at ")
+        return [(*said, OfPlace(place))]
+
+    def made_at(self, record: Record) -> List[Phrase]:
+        """Where in the program a Deferred was made, in which function, and what has called that, as far as it is known."""
+        site = self.sites.of.get(record.number)
+        if site is None:
+            return []
+        stack = self._places.stack_of(record.names)
+        said = words("made at ", OfPlace(site.place))
+        if site.by is not None:
+            said += (" in ", OfScript(site.function), ", by ", OfScript(site.by.function), " at ", OfPlace(site.by.place))
+        elif site.caller is not None:
+            said += (", called at ", OfPlace(site.caller.place), " in ", OfScript(site.caller.function))
+        if len(stack) > 1:
+            said += (", begun at ", OfPlace(stack[1][0].place), " in ", OfScript(stack[1][0].function))
+        return [said]
 
     def awaits_at(self, body: Record) -> Phrase:
         """The line of the program in which a body awaited last, as the end of a sentence, if that is known."""
@@ -163,15 +203,15 @@ class Inferred:
             return ("held for ", OfDeferred(held.deferred), *since, *by)
         body = self._fold.records[held.body]
         if body.fired is None and body.awaits is not None:
-            return ("held by ", OfDeferred(held.body), *since, ", whose body awaits ", OfDeferred(body.awaits), *self.awaits_at(body))
-        return ("held by ", OfDeferred(held.body), *since)
+            return ("held by ", *self.body(held.body), *since, ", whose body awaits ", OfDeferred(body.awaits), *self.awaits_at(body))
+        return ("held by ", *self.body(held.body), *since)
 
     # Deferreds among those of their line
 
     def among(self, record: Record) -> List[Phrase]:
         """How the others were of the line that made a Deferred, if that one is odd among them."""
         site = self.sites.of.get(record.number)
-        return [(self._others(site),)] if site is not None and record.number in self.sites.odd else []
+        return [(self._others(site.among),)] if site is not None and record.number in self.sites.odd else []
 
     def _others(self, site: Site) -> str:
         median = said_of(site.median, self._tick)
@@ -190,10 +230,9 @@ class Inferred:
         cancel = record.cancelled or 0
         by = in_whom(self._fold.said_by(self._fold.rows[cancel].actor))
         said = words(OfDeferred(record.number), f" was unfired for {said_of(self.sites.unfired(record), self._tick)}, and then cancelled")
-        made = words("made at ", OfPlace(site.place))
         cancelled = words("it was cancelled in ", OfLine(cancel), *by)
-        guess = words("a guess, since it is odd among these: ", self._others(site))
-        details = details_of([made, guess], self._waiters(record), self.again(record), [cancelled])
+        guess = words("a guess, since it is odd among these: ", self._others(site.among))
+        details = details_of(self.made_at(record), [guess], self._waiters(record), self.again(record), [cancelled])
         return Finding(Severity.LIKELY, Kind.ODD, said, details, record.row)
 
     def _waiters(self, record: Record) -> List[Phrase]:
@@ -202,15 +241,15 @@ class Inferred:
         return [self._waiter(self._fold.records[number]) for number in numbers[:_MOST_HELD]]
 
     def _waiter(self, body: Record) -> Phrase:
-        return ("the inline body of ", OfDeferred(body.number), *self._made(body.number), " awaited it", *self.awaits_at(body))
+        return ("the inline body of ", *self.body(body.number), *self._made(body.number), " awaited it", *self.awaits_at(body))
 
     def again(self, record: Record) -> List[Phrase]:
         """What the body that made a cancelled Deferred made at the same line after the cancel: a retry, it seems."""
-        cancel, site, body = record.cancelled, self.sites.of.get(record.number), self._bodies.acting.get(record.row)
+        cancel, site, body = record.cancelled, self.sites.line_of.get(record.number), self._bodies.acting.get(record.row)
         if site is None or body is None or cancel is None:
             return []
         after = [one for one in self._made_by[site.place, body] if one.row > cancel]
-        return [("after that the body of ", OfDeferred(body), " made another there: ", OfDeferred(one.number), *self._got(one)) for one in after[:1]]
+        return [("after that the body of ", *self.body(body), " made another there: ", OfDeferred(one.number), *self._got(one)) for one in after[:1]]
 
     def _got(self, record: Record) -> Phrase:
         """What a Deferred was fired with, as the end of a sentence."""
@@ -226,7 +265,7 @@ class Inferred:
     def _went_on(self, one: WentOn) -> Finding:
         body, rows = one.body, self._fold.rows
         by = in_whom(self._fold.said_by(rows[one.cancel].actor))
-        said = words(OfDeferred(body.number), *self._made(body.number), " went on after it was cancelled")
+        said = words(*self.body(body.number), *self._made(body.number), " went on after it was cancelled")
         awaited = rows[one.awaited[0]].entry.other
         place = self._row_places.of(rows[one.awaited[0]])
         at = words(" at ", OfPlace(place)) if place is not None else words()

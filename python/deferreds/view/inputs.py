@@ -14,10 +14,10 @@ from ..ending import say
 from ..program import NOT_RUN, NotRun, found
 from .batches import Batches, text_of
 from .names import PLACES, STANDARD
-from .recordings import tick_beside
+from .recordings import Recorded, recorded_beside
 from .sources import Source
 
-# (what reads a run, places or orders is imported where it is used: most of the time of a page that draws itself would go to that)
+# (what reads a run, places or orders is imported where it is used)
 if TYPE_CHECKING:
     from .orders import Orders
     from .run import Run
@@ -61,14 +61,14 @@ class Inputs(NamedTuple):
         return self.journal or self.facts or self.script or STANDARD
 
     @property
-    def tick(self) -> str:
-        """How long a tick was where the run was recorded, or an empty text."""
-        return tick_beside(self.main) or tick_beside(self.script or STANDARD)
+    def recorded(self) -> Recorded:
+        """What is known of the run, if it was recorded."""
+        beside = recorded_beside(self.main)
+        return beside if any(beside) else recorded_beside(self.script or STANDARD)
 
     def told(self) -> "Told":
         """What tells of the run: it is read, or the script is run. Raises Failed."""
-        told = self._told()
-        return told._replace(source=told.source._replace(places=self.read_places(), tick=self.tick))
+        return self._told().beside(self.read_places(), self.recorded)
 
     def run(self) -> Run:
         """The run. Raises Failed."""
@@ -128,6 +128,10 @@ class Told(NamedTuple):
         """The text. Raises Failed."""
         return _text(self.data, self.name)
 
+    def beside(self, places: str, recorded: Recorded) -> "Told":
+        """The same, with what is known beside the text."""
+        return self._replace(source=self.source._replace(places=places, tick=recorded.tick, shaken=recorded.shaken))
+
     def run(self) -> Run:
         """The run. A text of which most lines aren't known is no journal, and a run of no line has nothing to show. Raises Failed."""
         from .facts import NotFacts
@@ -154,13 +158,13 @@ class InOrders:
         self._data = _read(self._name)
         self.title = _title(self._name)
         self.orders = _survey(self._data, self._name, words)
-        self._places, self._tick = inputs.read_places(), inputs.tick
+        self._places, self._recorded = inputs.read_places(), inputs.recorded
 
     def run(self, batches: Batches, label: str) -> Run:
         """The run in this order, which the label tells from others. Raises Failed."""
         told = run_script(self._data, self._name, text_of(batches))
-        source = told.source._replace(title=f"{self.title}, {label}", places=self._places, tick=self._tick)
-        return told._replace(source=source).run()
+        told = told._replace(source=told.source._replace(title=f"{self.title}, {label}"))
+        return told.beside(self._places, self._recorded._replace(shaken="")).run()
 
 
 def _survey(data: bytes, name: str, words: Sequence[str]) -> Orders:
@@ -193,7 +197,7 @@ def read_any(name: str, batches: Optional[str] = None) -> Run:
     else:
         told = Told(Source(_title(name), not _bare(text).startswith("{")), data, name)
     beside = Inputs(name)
-    return told._replace(source=told.source._replace(places=beside.read_places(), tick=beside.tick)).run()
+    return told.beside(beside.read_places(), beside.recorded).run()
 
 
 def _bare(text: str) -> str:

@@ -13,6 +13,8 @@ TRACE, ORDERS_PAGE, SAMPLE_PAGE = ".trace.json", ".orders.html", ".sample.html"
 #: what the names of files end with that stand beside a script or a journal: its places, and the list of its recording; and the journal of
 #: a whole run, if the script is of its beginning
 PLACES, RECORDING, WHOLE_JOURNAL = ".places.json", ".recording", ".whole.journal"
+#: what the names end with of the page on which the run of a recording stands beside another, and of the script of which every order can run
+COMPARED, ORDERS_SCRIPT = ".compared.html", ".orders.json"
 
 
 def page_name(name: str, ending: str) -> str:

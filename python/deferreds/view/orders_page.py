@@ -15,14 +15,14 @@ from ..checkout import as_called
 from .batches import Batches, text_of
 from .compared import Compared
 from .compared_forms import ComparedPage
-from .document import FRAME_BASE, asset, policy_hash, script_of, style_of, written
+from .document import FRAME_BASE, asset, policy_hash, script_of, written
 from .markup import isolated
 from .orders import Came, Endings, Orders, Way
 from .page import Page
 from .records import ended
 from .run import Run
 from .shapes import CLASSES, SIGNS
-from .sizes import MOST_ROWS, several
+from .sizes import several
 from .texts import Html, escaped, framed, joined, shortened
 
 #: how many charts the page has at most, and how many lines these have together
@@ -46,7 +46,7 @@ class Shown(NamedTuple):
     @property
     def height(self) -> int:
         """About how high the chart's page is, in pixels. Its frame is no higher than the screen."""
-        return 420 + 20 * len(self.page.window) + 26 * (len(self.run.report.findings) + len(self.run.fold.records))
+        return 420 + 20 * len(self.page.rows) + 26 * (len(self.run.report.findings) + len(self.run.fold.records))
 
 
 class OrdersPage:
@@ -83,11 +83,8 @@ class OrdersPage:
 
     def _policy(self, style: str, script: str) -> str:
         """The policy of the page, which holds for its frames, too."""
-        styles = dict.fromkeys([style, *(style_of(one.page.rules) for one in self.shown)])
-        scripts = [script, script_of()]
-        return (
-            f"default-src 'none'; style-src {_hashes(list(styles))}; script-src {_hashes(scripts)}; base-uri {FRAME_BASE}; form-action 'none'"
-        )
+        styles, scripts = _hashes([style, asset("style.css")]), _hashes([script, script_of()])
+        return f"default-src 'none'; style-src {styles}; script-src {scripts}; base-uri {FRAME_BASE}; form-action 'none'"
 
     # above the tables
 
@@ -211,7 +208,7 @@ class OrdersPage:
         return Html(
             f"<section class=order id=order-{one.letter} data-o={one.letter}><h2>Order {one.letter}</h2><p class=facts>{self._firsts(one)}</p>"
             f"<details class=order><summary>the order in which posts are taken</summary><code>{escaped(_batches_word(one.batches))}</code></details>"
-            f'<iframe title="The chart of order {one.letter}" height={one.height} srcdoc="{framed(written(one.run.title, one.page.rules, one.page.whole(), in_frame=True))}"></iframe></section>'
+            f'<iframe title="The chart of order {one.letter}" height={one.height} srcdoc="{framed(written(one.run.title, one.page.pieces(), in_frame=True))}"></iframe></section>'
         )
 
     def _firsts(self, shown: Shown) -> Html:
@@ -257,8 +254,8 @@ def _shown(firsts: Sequence[Batches], run: Callable[[Batches, str], Run]) -> Ite
     lines = 0
     for letter, batches in zip(_LETTERS, firsts):
         one = run(batches, f"order {letter}")
-        page = Page(one, 1, MOST_ROWS)
-        lines += len(page.window)
+        page = Page(one)
+        lines += len(page.rows)
         if lines > MOST_CHART_LINES:
             return
         yield Shown(letter, batches, one, page)

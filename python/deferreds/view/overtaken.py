@@ -23,7 +23,7 @@ class Overtaken(NamedTuple):
 
 def overtaken(sites: Sites) -> List[Overtaken]:
     """The first job of each line that was overtaken."""
-    found = [_at(site) for site in sites.all]
+    found = [_at(site) for site in sites.lines]
     return [one for one in found if one is not None]
 
 

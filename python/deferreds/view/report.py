@@ -29,6 +29,7 @@ from .phrases import OfDeferred, OfLine, OfPlace, OfScript, OfTime, Part, Phrase
 from .places import NOWHERE, Places
 from .records import By, Finish, GotNull, Made, Record, Row
 from .scripts import Script
+from .shaken import shaken_row
 from .sizes import several
 from .world import Shelf, T
 
@@ -65,6 +66,7 @@ class Report:
         inferred: Inferred,
         places: Places = NOWHERE,
         ticks: Callable[[int], str] = str,
+        shaken: str = "",
     ) -> None:
         self._inferred = inferred
         self._places_of = places
@@ -79,7 +81,7 @@ class Report:
         self._crossed: Set[int] = set()
         self._timers = {(timer.deferred, timer.due): timer.row for timer in fold.world.timers}
         self._failed = {one.number for one in left if isinstance(one, LeftFailure)}
-        found = [*self._bad(finish), *self._open(), *self._notes()]
+        found = [*shaken_row(shaken, fold, places), *self._bad(finish), *self._open(), *self._notes()]
         found += inferred.went_on()
         found += inferred.odd({record.number for record in fold.records.values() if record.swallowed})
         found += inferred.overtaken()
@@ -187,6 +189,7 @@ class Report:
             details.append(("it comes from ", OfLine(origin), ": ", OfScript(head)))
         elif origin is not None and record.fired_by and record.begun is None:
             details.append(("fired by ", *record.fired_by))
+        details += self._inferred.called(record)
         details += self._begun(record)
         if record.pauses and record.paused_at is not None:
             details.append(("it is paused since ", OfLine(record.paused_at)))
@@ -256,7 +259,8 @@ class Report:
             stopped = [("its body has awaited ", OfDeferred(record.awaits), *self._inferred.awaits_at(record), ", and didn't end")]
         places = self._places(record) if record.made is Made.ACTION else ()
         details = details_of(
-            self._made_at(record),
+            self._inferred.made_at(record),
+            self._inferred.called(record),
             self._inferred.among(record),
             [places],
             stopped,
@@ -266,17 +270,13 @@ class Report:
         said: Phrase = ("nobody fired ", OfDeferred(record.number), paused)
         return Finding(Severity.LEFT, Kind.UNFIRED, said, details, record.row)
 
-    def _made_at(self, record: Record) -> List[Phrase]:
-        """Where in the program the Deferred was made, if that is known."""
-        place = self._places_of.of_deferred(record.names)
-        return [("made at ", OfPlace(place))] if place is not None else []
-
     def _where(self, number: int) -> Phrase:
         """Where in the program a body awaits, or a Deferred was made that waits for something, if that is known."""
         record = self._fold.records.get(number)
         if record is not None and record.awaits is not None:
-            return self._inferred.awaits_at(record)
-        place = self._places_of.of_deferred(record.names) if record is not None else None
+            called = [(": ", *phrase) for phrase in self._inferred.called(record)]
+            return words(*self._inferred.awaits_at(record), *(called[0] if called else ()))
+        place = self._inferred.place_of(record) if record is not None else None
         return words(", made at ", OfPlace(place)) if place is not None else words()
 
     def _places(self, record: Record) -> Phrase:
@@ -338,7 +338,7 @@ class Report:
         waits = several(len(one.waiting), "waits", "wait")
         said: Phrase = (f"{waits} for a value of {queue.name}, and nothing is put",)
         return Finding(
-            Severity.LEFT, Kind.GETTER, said, details_of(self._held(Root(At.QUEUE, one.number))), queue.row
+            Severity.LEFT, Kind.GETTER, said, details_of(self._inferred.thing_made_at(queue.name), self._held(Root(At.QUEUE, one.number))), queue.row
         )
 
     def _due(self, one: Left) -> Optional[Finding]:
@@ -440,7 +440,7 @@ class Report:
         answer: Part = OfScript(fired_with) if fired_with else "its answer"
         said: Phrase = ("a late firing of ", OfDeferred(record.number), " was swallowed: nobody got ", answer)
         details = details_of(
-            self._cancelled(record, row), [self._by(row)], self._made_at(record), self._inferred.among(record), self._inferred.again(record)
+            self._cancelled(record, row), [self._by(row)], self._inferred.made_at(record), self._inferred.among(record), self._inferred.again(record)
         )
         return Finding(Severity.NOTE, Kind.SWALLOWED, said, details, place)
 

@@ -49,6 +49,8 @@ class Run:
         self.places: Places = NOWHERE
         #: how long a tick was where the run was recorded, as `1 ms`, or an empty text
         self.tick = ""
+        #: how it was shaken, as JSON, or an empty text
+        self.shaken = ""
         self.durations = Durations(fold.rows)
         self._row_places: Optional[RowPlaces] = None
         self._inferred: Optional[Inferred] = None
@@ -89,7 +91,7 @@ class Run:
     def report(self) -> Report:
         """What is left, and why."""
         if self._report is None:
-            self._report = Report(self.fold, self.left, self.finish, self.script, self.inferred, self.places, self.ticks)
+            self._report = Report(self.fold, self.left, self.finish, self.script, self.inferred, self.places, self.ticks, self.shaken)
         return self._report
 
     @property
@@ -189,4 +191,5 @@ def run_of(source: Source, text: str) -> Run:
         run.problems.append((source.problem,))
     run.places = read_places(source.places) if source.places else NOWHERE
     run.tick = source.tick
+    run.shaken = source.shaken
     return run

@@ -2,16 +2,20 @@
 
 A Deferred is odd if it was unfired far longer than the others of its line, or was cancelled where nearly all others ended with a
 value. One that hung on an odd one isn't odd itself.
+
+A line that several others have called, as that of a client's requests, says little. So it is divided by the lines that called it, at the
+first caller by which they differ. If one line of another file has called it for all, that counts. What was divided is compared each for
+itself if these are enough, and else with all of the line.
 """
 
 from __future__ import annotations
 
 import re
-from typing import Dict, List, Set
+from typing import Dict, List, Optional, Set, Tuple
 
 from .durations import Durations
 from .fold import Fold
-from .places import Place, Places
+from .places import Frame, Place, Places
 from .records import Ended, Record, ended
 from .units import seconds_of
 
@@ -31,11 +35,14 @@ _NUMBERS = re.compile(r"_[0-9]+(?:_[0-9]+)?$")
 
 
 class Site:
-    """A line of the program, with the Deferreds that it made."""
+    """A line of the program, with the Deferreds that it made, or that another line made which it has called."""
 
     def __init__(self, place: Place, function: str) -> None:
         self.place = place
         self.function = function
+        #: the line that made them, if this one has called it; and the one that has called this one, if it is the same for all
+        self.by: Optional[Frame] = None
+        self.caller: Optional[Frame] = None
         self.records: List[Record] = []
         #: how many ended how: `ok`, `fail`, `cancelled`, `waiting`, `paused` or `unfired`
         self.ends: Dict[str, int] = {}
@@ -45,10 +52,19 @@ class Site:
         #: the numbers of those that are odd, and of those that were unfired far longer than the others
         self.odd: List[int] = []
         self.long: Set[int] = set()
+        #: the line with whose Deferreds these are compared
+        self.among = self
 
     def count(self, end: str) -> int:
         """How many ended so."""
         return self.ends.get(end, 0)
+
+    @property
+    def label(self) -> str:
+        """The function, and the one that it has called to make them, or that has called it: `order, by ask at wire.py:33`."""
+        if self.by is not None:
+            return f"{self.function}, by {self.by.function} at {self.by.place.text}"
+        return f"{self.function}, from {self.caller.function} at {self.caller.place.text}" if self.caller is not None else self.function
 
     @property
     def said(self) -> str:
@@ -76,16 +92,28 @@ class Sites:
         self._fold = fold
         self._durations = durations
         self._tick = tick
-        #: by the number of a Deferred, its line
+        #: by the number of a Deferred, its line; and that which made it, with all that were made there
         self.of: Dict[int, Site] = {}
-        found = self._found(places)
-        for site in found:
-            self._sum_up(site)
+        self.line_of: Dict[int, Site] = {}
+        #: the lines that made them, undivided
+        self.lines = self._found(places)
+        found: List[Site] = []
+        for line in self.lines:
+            self._sum_up(line)
+            divided = _divided(line, places)
+            for site in divided:
+                self._place(site)
+                if site is not line:
+                    self._sum_up(site)
+                self._judge(site, site if len(site.records) >= _LEAST else line)
+            found += divided
         suspects = {number for site in found for number in site.odd}
         for site in found:
             site.odd = [number for number in site.odd if not self._follows(number, suspects)]
         #: the numbers of all that are odd
         self.odd = {number for site in found for number in site.odd}
+        for line in self.lines:
+            line.odd = [record.number for record in line.records if record.number in self.odd]
         self.all = sorted(found, key=lambda site: (-len(site.odd), -site.longest))
 
     def _found(self, places: Places) -> List[Site]:
@@ -95,8 +123,12 @@ class Sites:
             if place is not None:
                 site = found.setdefault(place, Site(place, _function(record.name, place.line)))
                 site.records.append(record)
-                self.of[record.number] = site
+                self.line_of[record.number] = site
         return list(found.values())
+
+    def _place(self, site: Site) -> None:
+        for record in site.records:
+            self.of[record.number] = site
 
     def unfired(self, record: Record) -> int:
         """How many ticks a Deferred was unfired."""
@@ -108,16 +140,21 @@ class Sites:
         for record in site.records:
             end = end_of(self._fold, record)
             site.ends[end] = site.ends.get(end, 0) + 1
-        if len(times) < _LEAST:
+
+    def _judge(self, site: Site, others: Site) -> None:
+        """Finds those of a line that are odd among these."""
+        made = len(others.records)
+        if made < _LEAST:
             return
-        is_rare = site.count(CANCELLED) * _RARE <= len(times) and site.count(OK) * 2 > len(times)
+        is_rare = others.count(CANCELLED) * _RARE <= made and others.count(OK) * 2 > made
         for record in site.records:
             ticks, end = self.unfired(record), end_of(self._fold, record)
-            is_long = ticks > _TIMES * site.median and self._is_long(ticks)
+            is_long = ticks > _TIMES * others.median and self._is_long(ticks)
             if is_long:
                 site.long.add(record.number)
             if (is_long and end in (CANCELLED, _UNFIRED)) or (end == CANCELLED and is_rare):
                 site.odd.append(record.number)
+        site.among = others
 
     def _is_long(self, ticks: int) -> bool:
         """Whether a time is long enough to be seen, if it is known how long a tick was."""
@@ -127,6 +164,32 @@ class Sites:
         """Whether a Deferred was left or cancelled because it hung on one of these."""
         record = self._fold.records[number]
         return any(one in suspects and one != number for one in (record.awaits, record.waits))
+
+
+def _divided(line: Site, places: Places) -> List[Site]:
+    """The lines that have called one, as far as the callers of its Deferreds differ; else that line itself."""
+    stacks = [_called(places, record) for record in line.records]
+    level = 0
+    while all(level < len(stack) for stack in stacks) and len({stack[level] for stack in stacks}) == 1:
+        level += 1
+    if level == 0 or all(level >= len(stack) for stack in stacks):
+        if level < 2 or stacks[0][1].place.file == line.place.file:
+            line.caller = stacks[0][1] if level > 1 else None
+            return [line]
+        level = 1
+    found: Dict[Frame, Site] = {}
+    for record, stack in zip(line.records, stacks):
+        frame = stack[min(level, len(stack) - 1)]
+        site = found.setdefault(frame, Site(frame.place, frame.function))
+        site.by = stack[0] if frame != stack[0] else None
+        site.records.append(record)
+    return list(found.values())
+
+
+def _called(places: Places, record: Record) -> Tuple[Frame, ...]:
+    """The functions on Python's stack where a Deferred was made, innermost first."""
+    stack = places.stack_of(record.names)
+    return stack[0] if stack else ()
 
 
 def _function(name: str, line: int) -> str:

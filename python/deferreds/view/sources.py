@@ -23,6 +23,8 @@ class Source(NamedTuple):
     begins: Optional[Sequence[int]] = None
     #: what can't be relied on, or an empty text
     problem: str = ""
+    #: how the run was shaken, as the list of its recording says it, as JSON, or an empty text
+    shaken: str = ""
 
     @property
     def events(self) -> int:

@@ -11,9 +11,9 @@ from .durations import Durations
 from .fold import Fold
 from .hanging import object_name
 from .left import At, Hang, Left, LeftDeferred
-from .records import BracketKind, By, Record, Row, ended
+from .records import BracketKind, By, Row
 
-#: how many branches a tree has at most; `stories.js` has the same number
+#: how many branches a tree has at most; `story.js` has the same number
 MOST_BRANCHES = 2_000
 
 _CLOSERS = frozenset({"set", "take", "wait"})
@@ -213,11 +213,9 @@ class Stories:
 
     # on the page
 
-    def written(self, record: Record, durations: Durations) -> str:
-        """The line in which the page has the steps of a Deferred, after its number, its name, how it ended and what it has spent."""
-        spent = durations.of(record)
-        words = [str(record.number), record.name or "-", ended(record.end).value, str(spent.unfired), str(spent.waited), str(spent.paused), str(spent.sides)]
-        return " ".join([*words, *(word for step in self.of[record.number] for word in self._words(step, durations))])
+    def written(self, number: int, durations: Durations) -> str:
+        """The steps of a Deferred as the page has them: a letter, the row in which a step begins, and that in which it ends."""
+        return " ".join(word for step in self.of.get(number, []) for word in self._words(step, durations))
 
     def _words(self, first: Step, durations: Durations) -> Iterator[str]:
         todo: List[Optional[Step]] = [first]

@@ -17,7 +17,7 @@ from .texts import clipped, visible
 from .units import said_of, time_of
 
 _DEEPEST = 12
-_MOST_LINE, _MOST_TEXT, _MOST_EVENT, _MOST_SITE, _MOST_ODD = 160, 200, 100, 40, 5
+_MOST_LINE, _MOST_TEXT, _MOST_EVENT, _MOST_SITE, _MOST_ODD = 160, 200, 100, 60, 5
 #: the head of the table of lines of the program
 _HEAD = ("made at", "made", "ended", "half unfired up to", "longest", "odd")
 
@@ -74,7 +74,7 @@ class Terminal:
         tick = self._run.tick
         named = [f"#{number}" for number in site.odd[:_MOST_ODD]]
         more = [f"and {len(site.odd) - _MOST_ODD} more"] if len(site.odd) > _MOST_ODD else []
-        made = visible(clipped(f"{site.place.text} {site.function}".rstrip(), _MOST_SITE))
+        made = visible(clipped(f"{site.place.text} {site.label}".rstrip(), _MOST_SITE))
         return made, f"{len(site.records)}", site.said, said_of(site.median, tick), said_of(site.longest, tick), " ".join([*named, *more])
 
     def _table(self, rows: Sequence[Sequence[str]]) -> Iterator[str]:

@@ -29,6 +29,7 @@ from ...arguments import USAGE, Parser
 from ...bounds import MOST_ORDERS, MOST_SEED
 from ...checkout import as_called, command_name
 from ...ending import Stopped, stopping, writing
+from ...language import LANGUAGE
 from .. import grammar
 from ..children import ending_all
 from ..programs import MOST_LATE, MOST_UNANSWERED, SECONDS, Broken
@@ -88,6 +89,7 @@ def _arguments(words: List[str]) -> argparse.Namespace:
         default=list(grammar.LEVELS)[-1],
         help="only what this level and those before it have (default: all)",
     )
+    add("--version", type=int, choices=LANGUAGE.versions, help="only random scripts of this version of the language (default: all)")
     add("--no-refusals", action="store_true", help="leave out the rows whose scripts are refused")
     add("--orders", action="store_true", help="compare a script with posts in every order of them")
     add("--most", type=_most, metavar="N", help=f"with --orders: in at most N orders of a script ({_ORDERS})")
@@ -118,6 +120,9 @@ def _arguments(words: List[str]) -> argparse.Namespace:
         raise SystemExit(USAGE)
     if not parsed.rows and not parsed.random and not parsed.script:
         print(f"{command_name('conform')}: one of --rows, --random N and --script FILE is needed", file=sys.stderr)
+        raise SystemExit(USAGE)
+    if parsed.version is not None and not grammar.has_version(parsed.level, parsed.version):
+        print(f"{command_name('conform')}: no script of the level {parsed.level} is of version {parsed.version}", file=sys.stderr)
         raise SystemExit(USAGE)
     if parsed.most is not None and not parsed.orders:
         print(f"{command_name('conform')}: --most is for --orders", file=sys.stderr)

@@ -49,6 +49,7 @@ import tempfile
 from importlib.machinery import PathFinder
 from itertools import islice
 from pathlib import Path
+from time import time
 from typing import List, Optional, Set, Tuple
 
 import twisted
@@ -56,7 +57,7 @@ import twisted
 from ...arguments import USAGE, Parser
 from ...checkout import as_called, command_name
 from ...ending import ProgramStatus
-from ...view.names import PLACES
+from ...view.names import COMPARED, ORDERS_SCRIPT, PLACES
 
 from ..instruments import install
 from ..recording.agreeing import program
@@ -81,6 +82,7 @@ from ..shaking.options import TAKE_WORD, add_options, problem_of, settings_of, w
 from ..shaking.plain import run_plain
 from ..shaking.search import Program, Search
 from ..shaking.shaker import Shaker
+from ..shaking.stopping import stopped_by_signals
 from ..shaking.tally import Tally
 from ..shaking.tests import ShakenTest, has_reactor, names_of, record_one, run_test
 from ..telling import KINDS
@@ -236,7 +238,8 @@ def _keeping(arguments: argparse.Namespace, name: str, messages: Messages) -> Ke
     """Where the recording is kept. Raises Refused where it can't be."""
     place = Place(name, arguments.overwrites)
     try:
-        place.check([".json", ".journal", PLACES, *([".html"] if arguments.view else [])])
+        compared = [COMPARED, ORDERS_SCRIPT] if arguments.shake is not None else []
+        place.check([".json", ".journal", PLACES, *([".html"] if arguments.view else []), *compared])
     except NoPlace as why:
         raise Refused(Status.NOT_WRITTEN, str(why)) from None
     return Keeping(place, messages, arguments.view, program())
@@ -309,6 +312,17 @@ def _shake_tests(arguments: argparse.Namespace, messages: Messages) -> int:
     return tally.status
 
 
+def _shaken_once(arguments: argparse.Namespace, messages: Messages) -> int:
+    """Records one run of a program, which is shaken."""
+    shaker = Shaker(Choices(settings_of(arguments)))
+    install_shaking(shaker)
+    try:
+        return _program(arguments, messages)
+    finally:
+        if shaker.fast is not None:
+            messages.say(shaker.fast.waits.said)
+
+
 def _search_of_test(arguments: argparse.Namespace, messages: Messages, test: ShakenTest, is_only: bool) -> Search:
     """The search that shakes a test. Its recording has the name of its method, or that of its class, too, if it isn't the only one."""
     arguments.view = True
@@ -326,7 +340,7 @@ def _search_of_test(arguments: argparse.Namespace, messages: Messages, test: Sha
         return status
 
     place = _keeping(arguments, _name(arguments.output, usual), messages).place
-    return Search(Program(lambda: run_test(test), recorded), wanted_of(arguments), place, messages)
+    return Search(Program(lambda: run_test(test), recorded, test.clear), wanted_of(arguments), place, messages)
 
 
 def _notes(keeping: Keeping, overwrites: bool, redact: str, messages: Messages) -> NotesFile:
@@ -344,7 +358,7 @@ def _notes(keeping: Keeping, overwrites: bool, redact: str, messages: Messages) 
         file = NotesFile(path, messages.say)
     except OSError as error:
         raise Refused(Status.NOT_WRITTEN, f"{keeping.place.shown(NOTES)} can't be written: {error.strerror}") from None
-    file.add(header(redact, str(twisted.__version__), platform.python_version()))
+    file.add(header(redact, str(twisted.__version__), platform.python_version(), time()))
     return file
 
 
@@ -418,9 +432,10 @@ def main(words: List[str]) -> int:
             # modules are looked for as `python3 -m` does it, also where the command is installed
             set_first_folder(os.getcwd())
         if arguments.shake is not None:
-            return _shake_tests(arguments, messages) if arguments.test else _shake(arguments, messages)
+            with stopped_by_signals():
+                return _shake_tests(arguments, messages) if arguments.test else _shake(arguments, messages)
         if arguments.seed is not None:
-            install_shaking(Shaker(Choices(settings_of(arguments))))
+            return _shaken_once(arguments, messages)
         return _test(arguments, messages) if arguments.test else _program(arguments, messages)
     except Refused as why:
         messages.say(str(why))

@@ -214,7 +214,7 @@ def _tell_hand_over(
     record.waits_for = None
     if deferred.paused > 1:
         watcher.quirk(Entry.PAUSED_RECEIVER)
-    if _givers and isinstance(held, Deferred):
+    elif _givers and isinstance(held, Deferred):
         _givers[-1].append((held, len(watcher.parts)))
 
 

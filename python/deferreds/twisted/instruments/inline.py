@@ -56,6 +56,7 @@ def _act(watcher: Observer, gen: Any) -> Any:
         _begun.append(frame)
         return _cancellable(gen)
 
+    watcher.note_call(action, gen)
     is_nested = watcher.begin_inline(body)
     deferred = watcher.act(action, make)
     if is_nested:

@@ -2,6 +2,7 @@
 
 from __future__ import annotations
 
+import functools
 from typing import Any, Callable, Type, Union
 
 from twisted.internet import defer
@@ -21,6 +22,7 @@ def thing_of(watcher: Observer, primitive: Primitive) -> Thing:
         return known[1]  # type: ignore[no-any-return]
     semaphore = isinstance(primitive, DeferredSemaphore)
     thing = watcher.thing("semaphore" if semaphore else "lock")
+    watcher.note_made(thing, primitive.__dict__.get("_dv_made_at"))
     primitive.__dict__["_dv_thing"] = (watcher, thing)
     watcher.texts.bind(primitive, thing)
     if primitive.waiting or _is_held(primitive):
@@ -117,7 +119,23 @@ def _give_back(watcher: Observer, primitive: Primitive, release: Callable[[Any],
         raise
 
 
+def note_place(cls: Type[Any], kind: str) -> None:
+    """Has objects of a class know where they were made: a lock is recorded only where it is used first."""
+    init = cls.__init__
+
+    @functools.wraps(init)
+    def instrumented_init(self: Any, *args: Any, **kwargs: Any) -> None:
+        watcher = observer_of(kind)
+        if watcher is not None:
+            self.__dict__["_dv_made_at"] = watcher.spot()
+        init(self, *args, **kwargs)
+
+    setattr(cls, "__init__", instrumented_init)
+
+
 def install() -> None:
     """Puts the instrument into both classes."""
+    note_place(DeferredLock, "lock")
+    note_place(DeferredSemaphore, "lock")
     _instrument(defer.DeferredLock)
     _instrument(defer.DeferredSemaphore)

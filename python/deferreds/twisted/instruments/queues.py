@@ -7,6 +7,7 @@ from typing import Any, Optional
 from twisted.internet.defer import Deferred, DeferredQueue
 
 from ..telling import Action, Observer, Record, Thing, observer_of
+from .locks import note_place
 
 _put = DeferredQueue.put
 _get = DeferredQueue.get
@@ -18,6 +19,7 @@ def thing_of(watcher: Observer, queue: DeferredQueue[Any]) -> Thing:
     if known is not None and known[0] is watcher:
         return known[1]  # type: ignore[no-any-return]
     thing = watcher.thing("queue")
+    watcher.note_made(thing, queue.__dict__.get("_dv_made_at"))
     queue.__dict__["_dv_thing"] = (watcher, thing)
     watcher.texts.bind(queue, thing)
     if queue.pending or queue.waiting:
@@ -81,5 +83,6 @@ def _act_get(watcher: Observer, queue: DeferredQueue[Any]) -> Any:
 
 def install() -> None:
     """Puts the instrument into the class."""
+    note_place(DeferredQueue, "queue")
     setattr(DeferredQueue, "put", _instrumented_put)
     setattr(DeferredQueue, "get", _instrumented_get)

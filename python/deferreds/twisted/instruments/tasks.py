@@ -73,8 +73,9 @@ class Cooperating:
         #: whether its scheduler isn't the clock of the run, so that its ticks are the only time there is
         self.alone = False
         self.time = 0
-        #: whose turn is next, where nobody is skipped
+        #: whose turn is next, where nobody is skipped, and whether a task has left the list since when that was nobody's
         self.place = 0
+        self.is_round_over = False
         #: how many of its tasks haven't ended
         self.live = 0
         #: where it was made, and after how many seconds its ticks are due
@@ -90,16 +91,25 @@ class Cooperating:
         """The program's, as long as it has that."""
         return self._cooperator()
 
-    def next_is(self, stepped: Any) -> bool:
-        """Whether it is the turn of the one that is stepped, where nobody is skipped. One that was stopped with all others has no place."""
+    def step(self, stepped: Any) -> Optional[Entry]:
+        """It is the turn of this task. The entry that says so, if it isn't where nobody is skipped.
+
+        One that was stopped with all others has no place.
+        """
         tasks = self.cooperator._tasks
         if stepped not in tasks:
-            return True
-        if self.place >= len(tasks):
-            self.place = 0
-        expected = tasks[self.place] is stepped
-        self.place = tasks.index(stepped) + 1
-        return expected
+            return None
+        is_round_over, expected = self.is_round_over, tasks[self.place % len(tasks)]
+        self.place, self.is_round_over = tasks.index(stepped) + 1, False
+        if stepped is expected:
+            return None
+        return Entry.JOIN_AFTER_THE_LAST if is_round_over and self.place == 1 else Entry.SKIPPED_TURN
+
+    def leaves(self, leaving: Any) -> None:
+        """A task leaves the list."""
+        tasks = self.cooperator._tasks
+        self.place -= tasks.index(leaving) < self.place
+        self.is_round_over = self.is_round_over or self.place >= len(tasks) - 1
 
     def word(self, word: str, end: str = "") -> Thing:
         """The first words of a line: those of a Cooperator with a name have another word, and the name."""
@@ -535,8 +545,8 @@ def _instrumented_remove(self: Any, cooperative: Any) -> None:
     if watcher is not None and cooperating is not None:
         if cooperative not in self._tasks:
             _quirk(watcher, cooperating, Entry.TASK_ENDED_TWICE)
-        elif self._tasks.index(cooperative) < cooperating.place:
-            cooperating.place -= 1
+        else:
+            cooperating.leaves(cooperative)
     if watcher is None or cooperating is None:
         _remove(self, cooperative)
     else:
@@ -584,8 +594,9 @@ def _instrumented_work(self: Any) -> None:
         _work(self)
         return
     cooperating.steps += 1
-    if not cooperating.next_is(self):
-        _quirk(watcher, cooperating, Entry.SKIPPED_TURN)
+    entry = cooperating.step(self)
+    if entry is not None:
+        _quirk(watcher, cooperating, entry)
     watcher.tell("step ", known.thing)
     iterator = self._iterator
     self._iterator = _Asked(watcher, known, iterator)

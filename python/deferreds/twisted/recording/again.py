@@ -40,6 +40,8 @@ class _Hider:
             action.raises = self._noted(action.raises)
             if action.raised is not None:
                 action.raised = self._again.part(action.raised)
+        calls = recorder.spots.calls
+        calls[:] = [call._replace(arguments=[(name, self._shown(value)) for name, value in call.arguments]) for call in calls]
         recorder.problems[:] = [problem._replace(reason=self._again.text(problem.reason)) for problem in recorder.problems]
 
     def _part(self, part: object) -> None:

@@ -3,11 +3,13 @@
 from __future__ import annotations
 
 import json
+import os
 import sys
 from typing import Callable, List, NamedTuple, Optional
 
 from ...checkout import as_called
-from ..comparing import compared
+from ...program import NotRun, built
+from ..answers import compared
 from ..posts import has_posts
 from ..profile import Entry
 from ..programs import Answer, Broken, Once, Program, ours
@@ -30,6 +32,8 @@ class Agreement(NamedTuple):
     #: whether the script isn't that of the run
     is_wrong: bool
     text: str
+    #: whether the program prints the journal of the script
+    is_same: bool = False
 
 
 class Agreed(NamedTuple):
@@ -56,6 +60,15 @@ def program() -> Optional[Program]:
         return ours()
     except Broken:
         return None
+
+
+def facts_of(said: Said) -> Optional[str]:
+    """What the program prints of the script as JSON: all that a journal doesn't say, as the children of lists. None if it can't be had."""
+    try:
+        answer = Once([os.fspath(built()), "--json"], False, _SECONDS).answer(said.text)
+    except (NotRun, Broken, OSError, MemoryError):
+        return None
+    return answer.output if answer.status == 0 and answer.lack is None else None
 
 
 def real_twisted(errors_end_advances: bool) -> Program:
@@ -86,7 +99,7 @@ def agreed(said: Said, asked: Optional[Program], has_ended: bool = True, twisted
     first = compared(answer, Answer(0, said.output, ""))
     if first is None:
         how_far = ", line for line" if said.is_whole and has_ended else " up to there"
-        return Agreed(said, Agreement(False, f"{name} prints the same{how_far}"))
+        return Agreed(said, Agreement(False, f"{name} prints the same{how_far}", True))
     line, mine, other = first
     before = [entry for place, entry in said.quirks if place < line]
     if before:

@@ -11,7 +11,7 @@ from pathlib import Path
 from typing import Any, Callable, Dict, Iterable, List, Mapping, NamedTuple, Optional, Sequence, Tuple
 
 from ...files import check_folder, digest_of, read_plain
-from ...view.names import PLACES, WHOLE_JOURNAL
+from ...view.names import COMPARED, ORDERS_SCRIPT, PLACES, WHOLE_JOURNAL
 from .replacing import Failed, Halves, place_left, remove_left
 
 #: the file that says which files are the recording's own
@@ -29,8 +29,8 @@ _TRIES = 3
 _ROOM = "deferreds."
 
 #: the endings of all files of a recording but that list, and of those without which it is whole
-ENDINGS = (".json", ".journal", WHOLE_JOURNAL, PLACES, ".html")
-_MAY_BE_MISSING = frozenset({PLACES, ".html"})
+ENDINGS = (".json", ".journal", WHOLE_JOURNAL, PLACES, ".html", COMPARED, ORDERS_SCRIPT)
+_MAY_BE_MISSING = frozenset({PLACES, ".html", COMPARED, ORDERS_SCRIPT})
 
 
 class NoPlace(Exception):

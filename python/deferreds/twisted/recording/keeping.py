@@ -3,20 +3,22 @@
 from __future__ import annotations
 
 import enum
+import json
 import platform
 import signal
 from typing import Any, Dict, List, Optional, Sequence
 
 import twisted
 
-from ...view.pages import page_of
+from ...view.page import written_page
 from ...view.run import run_of
 from ...view.sizes import several
 from ...view.names import PLACES, WHOLE_JOURNAL
 from ...view.sources import Source
 from ..programs import Program
-from .agreeing import Agreement, agreed
+from .agreeing import Agreement, agreed, facts_of
 from .files import Place, Written
+from .how_shaken import how_shaken
 from .messages import Messages
 from .recorder import Problem
 from .saying import Said
@@ -114,7 +116,8 @@ class Keeping:
             files.update({".json": said.text + "\n", ".journal": said.output})
             if not said.is_whole:
                 files[WHOLE_JOURNAL] = said.whole_output
-        counts = self._add_places_and_page(files, said, None if agreement.is_wrong else said.places)
+        facts = facts_of(said) if self._view and agreement.is_same and said.is_whole else None
+        counts = self._add_places_and_page(files, said, None if agreement.is_wrong else said.places, facts=facts)
         written = self._write_files(files, self._facts(said, how, earlier, agreement.text), counts)
         if not written.is_any:
             return Status.NOT_WRITTEN
@@ -124,19 +127,25 @@ class Keeping:
         lacks_page = self._view and ".html" not in files
         return Status.NOT_WRITTEN if written.failures or lacks_page else Status.RECORDED
 
-    def _add_places_and_page(self, files: Dict[str, str], said: Said, places: Optional[str], refused: str = "") -> str:
+    def _add_places_and_page(
+        self, files: Dict[str, str], said: Said, places: Optional[str], refused: str = "", facts: Optional[str] = None
+    ) -> str:
         """Adds the places, and if it is wanted the page of the whole run. Gives how large that is, or nothing where there is none.
 
-        `refused`: why there is no script, where there is none."""
+        `refused`: why there is no script, where there is none. `facts`: what the program prints of the whole run as JSON, of which the page is
+        made then, as the one that `./view` makes of the script."""
         if places is not None:
             files[PLACES] = places
         if not self._view:
             return ""
         problem = f"a script can't say this: {refused}. What is shown may lack it" if refused else "" if said.is_whole else _beginning(said)
-        source = Source(self.place.name.name, True, "" if refused else said.text, places or "", said.tick, False, said.begins, problem)
+        name, script, text = self.place.name.name, "" if refused else said.text, said.whole_output
+        source = Source(name, True, script, places or "", said.tick, False, said.begins, problem, json.dumps(how_shaken()))
+        if facts is not None:
+            source, text = Source(f"{name}.json", False, f"{script}\n", places or "", said.tick, False, shaken=source.shaken), facts
         try:
-            run = run_of(source, said.whole_output)
-            files[".html"] = page_of(source, said.whole_output, run)
+            run = run_of(source, text)
+            files[".html"] = written_page(run)
         except (OSError, MemoryError) as error:
             why = error.strerror if isinstance(error, OSError) else "out of memory"
             self.messages.say(f"{self.place.shown('.html')} can't be made: {why}")
@@ -164,6 +173,7 @@ class Keeping:
             "compared": compared,
             **({"refused": _reasons(said.refusals)} if said.is_cut else {}),
             **({"tick": said.tick} if said.tick else {}),
+            **({"shaken": how_shaken()} if how_shaken() else {}),
         }
 
     def _tell(self, said: Said, name: str, agreement: Agreement, until: str) -> None:

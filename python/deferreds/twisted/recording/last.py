@@ -74,6 +74,7 @@ class LastRecorder(Recorder):
         if before is not None:
             self.earlier = before.earlier + len(before.events)
             self.texts = before.texts
+            self.spots.began = before.spots.began
             problems = dict.fromkeys(problem.said for problem in before.problems if problem.inner is None)
             self.problems = list(problems)
             self.texts.forget_kept()

@@ -6,7 +6,7 @@ import collections
 import unittest
 from typing import Counter, Dict, List, NamedTuple, Optional
 
-from ..comparing import compared
+from ..answers import compared
 from ..programs import Answer, Program
 from .agreeing import judged_by_twisted
 from .case import TestRun, record_test

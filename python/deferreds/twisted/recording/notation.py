@@ -10,7 +10,7 @@ from __future__ import annotations
 import enum
 
 #: what the first segment begins with, and the version of the notes
-MAGIC, VERSION = "deferreds notes", 1
+MAGIC, VERSION = "deferreds notes", 2
 
 #: how many bits say of what kind a part is
 BITS = 5
@@ -120,6 +120,15 @@ class Word(enum.IntEnum):
     END = 38
     LOOP = 39
     OTHER_THING = 40
+    #: the callers of the spot before it, and of a Deferred where it was made
+    CALLERS = 41
+    MADE_BY = 42
+    #: a code that has no other note yet
+    CODE = 43
+    #: what the inline body of an action was called with
+    CALLED = 44
+    #: where a lock or a queue was made
+    THING_MADE = 45
 
 
 class Has(enum.IntFlag):

@@ -15,6 +15,7 @@ from ..instruments.tasks import Word as CooperatorWord
 from ..profile import Entry as ProfileEntry
 from ..telling import Action, Advance, Begun, Ended, Failed, Pool, Record, Thing, Time
 from ..texts import NULL, Outcome, Text, Value
+from .arguments import Call
 from .bodies import Body, Run, Steps, Unsayable
 from .hiding import CHOICES
 from .notation import BITS, KINDS, MAGIC, MASK, NONE, VERSION, Has, Kind, Tag, Word
@@ -28,10 +29,11 @@ _MISSING = object()
 
 
 class Code:
-    """What is known of the code of a function: its file, and whether that is the program's own, or one of a loop that runs what is due."""
+    """What is known of the code of a function: its file, whether that is the program's own, or one of a loop that runs what is due, and its name."""
 
-    def __init__(self, file: str, path: str, is_own: bool, is_running: bool) -> None:
+    def __init__(self, file: str, path: str, is_own: bool, is_running: bool, name: str) -> None:
         self.co_filename = file
+        self.co_name = name
         self.path = path
         self.is_own = is_own
         self.is_running = is_running
@@ -40,17 +42,17 @@ class Code:
 class ReadSpots(Spots):
     """Where actions ran and Deferreds were made, as the notes say it."""
 
-    def all(self, made: Iterable[Tuple[object, Optional[Spot]]]) -> Iterator[Tuple[Any, str, int]]:
-        """Each action or Deferred whose place is known, with the whole path of its file and the line."""
-        noted = self.noted
-        for at in range(0, len(noted), 3):
-            code = noted[at + 1]
-            if not code.is_running:
-                yield noted[at], code.path, line_of(code, noted[at + 2])
-        for record, spot in made:
-            of_record = spot[1] if spot is not None else None
-            if spot is not None and of_record is not None and of_record.is_own:
-                yield record, of_record.path, line_of(of_record, spot[2])
+    @staticmethod
+    def _is_running(code: Any) -> bool:
+        return bool(code.is_running)
+
+    @staticmethod
+    def _is_own(code: Any) -> bool:
+        return bool(code.is_own)
+
+    @staticmethod
+    def _path(code: Any) -> str:
+        return str(code.path)
 
 
 class Noted(NamedTuple):
@@ -64,9 +66,9 @@ class Noted(NamedTuple):
     python: str
 
 
-def header(redact: str, twisted: str, python: str) -> List[Any]:
+def header(redact: str, twisted: str, python: str, began: float) -> List[Any]:
     """The first segment."""
-    return [MAGIC, VERSION, redact, twisted, python]
+    return [MAGIC, VERSION, redact, twisted, python, began]
 
 
 def noted(segments: Iterable[List[Any]]) -> Noted:
@@ -77,9 +79,10 @@ def noted(segments: Iterable[List[Any]]) -> Noted:
         raise BadNotes("it isn't a file of notes")
     if first[1:2] != [VERSION]:
         raise BadNotes("another version of this command has written it")
-    if len(first) != len(header("", "", "")) or not all(isinstance(item, str) for item in first[2:]) or first[2] not in CHOICES:
+    kinds = [type(item) for item in header("", "", "", 0.0)[2:]]
+    if [type(item) for item in first[2:]] != kinds or first[2] not in CHOICES:
         raise BadNotes("its first segment is damaged")
-    reader = _Reader(first[2])
+    reader = _Reader(first[2], first[5])
     try:
         for segment in each:
             reader.read(segment)
@@ -92,9 +95,9 @@ def noted(segments: Iterable[List[Any]]) -> Noted:
 class _Reader:
     """Reads segments, and has what they say be in a recorder."""
 
-    def __init__(self, redact: str) -> None:
+    def __init__(self, redact: str, began: float) -> None:
         self.recorder = Recorder(redact=redact)
-        spots = self.recorder.spots = ReadSpots()
+        spots = self.recorder.spots = ReadSpots(began)
         self.ended: Optional[int] = None
         self.how = ""
         self._items: List[Any] = []
@@ -103,6 +106,7 @@ class _Reader:
         self._tables[Kind.RUN].append(self.recorder.top)
         self._actions: List[Action] = []
         self._codes: List[Code] = []
+        self._all_callers: List[Tuple[Any, ...]] = []
         self._names = spots.free_names()
         self._times: List[Time] = []
         #: what waits, by the numbers of Python for its entries; the bodies that an action has; the step that may go on
@@ -150,6 +154,11 @@ class _Reader:
             Word.PARTS: self._lines,
             Word.FAILED: self._failed,
             Word.SPOT: self._spot_of,
+            Word.CALLERS: self._callers_of_spot,
+            Word.MADE_BY: self._made_by,
+            Word.CODE: self._new_code,
+            Word.CALLED: self._called,
+            Word.THING_MADE: self._thing_made,
             Word.FURTHER_CLOCK: lambda: self.recorder.further_clocks.append(self._text()),
             Word.CLASS: lambda: self.recorder.classes.declared.append((self._text(), self._text())),
             Word.POOL: self._pool,
@@ -449,7 +458,7 @@ class _Reader:
             if number < 0:
                 raise ValueError
             return self._codes[number]
-        code = Code(self._text(), self._text(), self._flag(), self._flag())
+        code = Code(self._text(), self._text(), self._flag(), self._flag(), self._text())
         count = self._count()
         starts, lines = ([self._any_integer() for _ in range(count)] for _ in range(2))
         if not starts:
@@ -671,7 +680,38 @@ class _Reader:
         code = self._code()
         if code is None:
             raise ValueError
-        self.recorder.spots.noted += (what, code, self._integer())
+        self.recorder.spots.noted += (what, code, self._integer(), None)
+
+    def _thing_made(self) -> None:
+        thing, made_at = self._get(Kind.THING), self._spot()
+        if made_at is None or made_at[1] is None:
+            raise ValueError
+        self.recorder.spots.places_of_things.append((thing, made_at))
+
+    def _called(self) -> None:
+        action, function = self._action(), self._text()
+        self.recorder.spots.calls.append(Call(action, function, [(self._text(), self._value()) for _ in range(self._count())]))
+
+    def _new_code(self) -> None:
+        self._code()
+
+    def _callers_of_spot(self) -> None:
+        self.recorder.spots.noted[-1] = self._callers()
+
+    def _made_by(self) -> None:
+        record = self._get(Kind.RECORD)
+        record.made_at = (*record.made_at[:3], self._callers())
+
+    def _callers(self) -> Tuple[Any, ...]:
+        """Callers by their number, or those that come first."""
+        number = self._integer()
+        if number != len(self._all_callers):
+            return self._all_callers[number]
+        callers: List[Any] = []
+        for _ in range(self._count() // 2):
+            callers += (self._codes[self._integer()], self._integer())
+        self._all_callers.append(tuple(callers))
+        return self._all_callers[-1]
 
     def _problem(self) -> None:
         reason, place, kind = self._text(), self._text(), self._text_or_none()

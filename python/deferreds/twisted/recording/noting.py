@@ -21,6 +21,7 @@ from ..instruments.tasks import Cooperating, Cooperators, Word as CooperatorWord
 from ..telling import KINDS as KINDS_OF_OBJECTS
 from ..telling import Action, Advance, Ended, Failed, Frame, Record, Thing, Time, know_attributes
 from ..texts import Outcome, Text, Value
+from .arguments import Call
 from .bodies import Body, Run, Steps, Unsayable
 from .hiding import SECRETS
 from .notation import BITS, KINDS, NONE, Has, Kind, Tag, Word
@@ -146,6 +147,8 @@ class Noting:
         self._steps: List[Any] = []
         #: codes, by their numbers of Python, each with its number
         self._codes: Dict[int, Tuple[int, Any]] = {}
+        #: the callers that are in the notes, as numbers of codes and instructions, each with its number
+        self._callers: Dict[Tuple[int, ...], int] = {}
         self._out: List[Any] = []
         #: the times of the segment, and what is new in it: Deferreds without a line, loops, and what does something by itself
         self._times: Dict[int, int] = {}
@@ -491,13 +494,16 @@ class Noting:
                 out += (made_at[0], known[0], made_at[2])
             else:
                 self._spot(made_at)
+        for record in records:
+            if record.made_at is not None and len(record.made_at) > 3 and record.made_at[3] is not None:
+                self._note_callers((int(Word.MADE_BY), record.noted_as), record.made_at[3])
 
     def _spot(self, made_at: Optional[Tuple[Any, ...]]) -> None:
         """Where something was made: the name of the function, its code, and the instruction."""
         if made_at is None:
             self._out.append(None)
             return
-        name, code, instruction = made_at
+        name, code, instruction = made_at[:3]
         self._out.append(name)
         self._code(code)
         self._out.append(instruction)
@@ -515,7 +521,7 @@ class Noting:
         self._codes[id(code)] = number, code
         _, starts, lines = lines_of(code)
         file = code.co_filename
-        self._out += (number, file, path_of(code), is_own(file), is_running(file), len(starts), *starts, *lines)
+        self._out += (number, file, path_of(code), is_own(file), is_running(file), code.co_name, len(starts), *starts, *lines)
 
     # what happened
 
@@ -586,7 +592,7 @@ class Noting:
     def _note_spots(self) -> None:
         noted, out, codes = self._recorder.spots.noted, self._out, self._codes
         every = iter(noted)
-        for what, code, instruction in zip(every, every, every):
+        for what, code, instruction, callers in zip(every, every, every, every):
             is_record = type(what) is Record
             out += (_SPOT, is_record, self._record_number(what) if is_record else what.noted_as)
             known = codes.get(id(code))
@@ -595,6 +601,37 @@ class Noting:
             else:
                 self._code(code)
             out.append(instruction)
+            if callers is not None:
+                self._note_callers((int(Word.CALLERS),), callers)
+        for call in self._recorder.spots.calls:
+            self._note_call(call)
+        for thing, made_at in self._recorder.spots.places_of_things:
+            number = self._thing_number(thing)
+            self._out += (int(Word.THING_MADE), number)
+            self._spot(made_at)
+
+    def _note_call(self, call: Call) -> None:
+        """What an inline body was called with, if its action is in the notes."""
+        if call.action.noted_as >= 0:
+            self._out += (int(Word.CALLED), call.action.noted_as, call.function, len(call.arguments))
+            for name, value in call.arguments:
+                self._out.append(name)
+                self._part(value)
+
+    def _note_callers(self, whose: Tuple[int, ...], callers: Sequence[Any]) -> None:
+        """The number of these callers, and what is known of them if they come first."""
+        codes = self._codes
+        for code in callers[::2]:
+            if id(code) not in codes:
+                self._out.append(int(Word.CODE))
+                self._code(code)
+        key = tuple(item if place % 2 else codes[id(item)][0] for place, item in enumerate(callers))
+        known = self._callers.get(key)
+        if known is not None:
+            self._out += (*whose, known)
+            return
+        number = self._callers[key] = len(self._callers)
+        self._out += (*whose, number, len(key), *key)
 
     # facts
 

@@ -10,8 +10,9 @@ import re
 import sys
 import sysconfig
 from asyncio import base_events
+from time import time  # (by its own name: the program may replace that of the module)
 from types import CodeType, CoroutineType, FrameType, GeneratorType
-from typing import Any, Dict, Iterable, Iterator, List, Optional, Set, Tuple
+from typing import Any, Dict, Iterable, Iterator, List, NamedTuple, Optional, Set, Tuple
 
 import twisted
 from twisted.internet import base, defer, task, threads
@@ -19,10 +20,25 @@ from twisted.python import context, failure
 
 from ..instruments.reactors import LOOPS
 from ..telling import Thing
+from .arguments import Call
 
-#: a function, and the code and the instruction of it, if it isn't Twisted's. What line that is is worked out where it is asked for,
-#: which takes Python longer than all else here
+#: a function, and the code and the instruction of it, if it isn't Twisted's, and then its callers, if they are known. What line that is
+#: is worked out where it is asked for, which takes Python longer than all else here
 Spot = Tuple[Any, ...]
+#: the code and the instruction of each caller, innermost first, or None
+Callers = Optional[Tuple[Any, ...]]
+
+
+class ProgramLine(NamedTuple):
+    """A line of the program, with the whole path of its file and the function that it is in."""
+
+    path: str
+    line: int
+    function: str
+
+
+#: twice the number of callers that are noted at most
+_MOST_CALLERS = 6
 
 _LONGEST = 24
 #: and the longest name of a thing, before a number
@@ -117,10 +133,16 @@ class Spots:
     Little is done while the program runs: each call, and each frame that is looked at, counts.
     """
 
-    def __init__(self) -> None:
-        #: three items for each: the action or the Deferred, the code, and the instruction
+    def __init__(self, began: Optional[float] = None) -> None:
+        """`began`: when the recording began, if that isn't now."""
+        self.began = time() if began is None else began
+        #: four items for each: the action or the Deferred, the code, the instruction, and the callers
         self.noted: List[Any] = []
         self._note = self.noted.extend
+        #: what inline bodies were called with
+        self.calls: List[Call] = []
+        #: where locks and queues were made
+        self.places_of_things: List[Tuple[Thing, Spot]] = []
         #: what was noted last where the program itself is in a file of its own
         self._last: object = None
         #: the names of things, once there is one
@@ -152,7 +174,7 @@ class Spots:
         code = frame.f_code
         if code.co_filename in _own_files:
             note = self._note
-            note((action, code, frame.f_lasti))
+            note((action, code, frame.f_lasti, _callers(frame)))
             self._last = action
         else:
             self._look_round(action, frame)
@@ -173,15 +195,15 @@ class Spots:
                 own = frame
             generator = inner
         if own is not None:
-            self._note((awaited, own.f_code, own.f_lasti))
+            self._note((awaited, own.f_code, own.f_lasti, None))
 
     def of_last(self, action: object, maker: Optional[str]) -> Optional[Spot]:
         """Where Twisted makes a Deferred while this action runs; None, where `locate` has to find that."""
         noted = self.noted
-        if action is None or self._last is not action or noted[-3] is not action:
+        if action is None or self._last is not action or noted[-4] is not action:
             return None
-        code = noted[-2]
-        return None if code.co_name in _INNER else (maker or code.co_name, code, noted[-1])
+        code = noted[-3]
+        return None if code.co_name in _INNER else (maker or code.co_name, code, noted[-2], noted[-1])
 
     def locate(self, record: object, maker: Optional[str], inside: int) -> Spot:
         """A Deferred is made: where. The caller's frame and so many around it are known not to be the program's."""
@@ -191,7 +213,7 @@ class Spots:
             return maker or "made", None, 0
         code = inner.f_code
         if code.co_filename in _own_files and code.co_name not in _INNER:
-            return maker or code.co_name, code, inner.f_lasti
+            return maker or code.co_name, code, inner.f_lasti, _callers(inner)
         frame: Optional[FrameType] = inner
         while frame is not None and not _FILES[frame.f_code.co_filename]:
             frame = frame.f_back
@@ -201,35 +223,97 @@ class Spots:
         if not _OWN_FILES[code.co_filename]:
             self._look_round(record, frame)
         name = code.co_name
-        return _spot_of(frame, maker) if name in _INNER else (maker or name, code, frame.f_lasti)
+        spot_ = _spot_of(frame, maker) if name in _INNER else (maker or name, code, frame.f_lasti)
+        return (*spot_, _callers(frame))
 
     def _look_round(self, noted: object, frame: Optional[FrameType]) -> None:
         while frame is not None:
             code = frame.f_code
             file = code.co_filename
             if file not in _other_files and _OWN_FILES[file]:
-                self._note((noted, code, frame.f_lasti))
+                self._note((noted, code, frame.f_lasti, _callers(frame)))
                 return
             frame = frame.f_back
 
     def forget(self) -> None:
         """Keeps nothing of what was noted."""
         self.noted.clear()
+        self.calls.clear()
+        self.places_of_things.clear()
         self._last = None
 
-    def all(self, made: Iterable[Tuple[object, Optional[Spot]]]) -> Iterator[Tuple[Any, str, int]]:
-        """Each action or Deferred whose place is known, with the whole path of its file and the line.
+    def all(self, made: Iterable[Tuple[object, Optional[Spot]]]) -> Iterator[Tuple[Any, List[ProgramLine]]]:
+        """Each action or Deferred whose place is known, with that and its callers, innermost first.
 
         `made` are the Deferreds, with what `locate` has given for them.
         """
+        known: Dict[Tuple[int, int], ProgramLine] = {}
         noted = self.noted
-        for at in range(0, len(noted), 3):
-            if noted[at + 1].co_filename not in _RUNNING:
-                yield noted[at], path_of(noted[at + 1]), line_of(noted[at + 1], noted[at + 2])
+        for at in range(0, len(noted), 4):
+            if not self._is_running(noted[at + 1]):
+                yield noted[at], self._lines(noted[at + 1], noted[at + 2], noted[at + 3], known)
         for record, spot_ in made:
             code = spot_[1] if spot_ is not None else None
-            if spot_ is not None and code is not None and _OWN_FILES[code.co_filename]:
-                yield record, path_of(code), line_of(code, spot_[2])
+            if spot_ is not None and code is not None and self._is_own(code):
+                yield record, self._lines(code, spot_[2], spot_[3] if len(spot_) > 3 else None, known)
+
+    def of_things(self) -> Iterator[Tuple[Thing, ProgramLine]]:
+        """Each lock and queue, and the line that made it, if that is the program's own."""
+        for thing, spot_ in self.places_of_things:
+            if self._is_own(spot_[1]) and not self._is_running(spot_[1]):
+                yield thing, self._lines(spot_[1], spot_[2], None, {})[0]
+
+    def _lines(self, code: Any, instruction: int, callers: Callers, known: Dict[Tuple[int, int], ProgramLine]) -> List[ProgramLine]:
+        """The line of an instruction, and those of the callers. `known`: lines, by the numbers of Python for codes and the instructions."""
+        instructions = [(code, instruction)]
+        if callers is not None:
+            instructions += zip(callers[::2], callers[1::2])
+        found: List[ProgramLine] = []
+        for inside, at in instructions:
+            line = known.get((id(inside), at))
+            if line is None:
+                line = known[id(inside), at] = ProgramLine(self._path(inside), line_of(inside, at), inside.co_name)
+            found.append(line)
+        return found
+
+    @staticmethod
+    def _is_running(code: Any) -> bool:
+        return code.co_filename in _RUNNING
+
+    @staticmethod
+    def _is_own(code: Any) -> bool:
+        return _OWN_FILES[code.co_filename]
+
+    @staticmethod
+    def _path(code: Any) -> str:
+        return path_of(code)
+
+
+def _callers(frame: FrameType) -> Callers:
+    """The functions of the program around this one, as far as they follow each other."""
+    outer = frame.f_back
+    if outer is None:
+        return None
+    code = outer.f_code
+    file = code.co_filename
+    if file not in _own_files and not _is_met(file):
+        return None
+    found: Tuple[Any, ...] = (code, outer.f_lasti)
+    while len(found) < _MOST_CALLERS:
+        outer = outer.f_back
+        if outer is None:
+            break
+        code = outer.f_code
+        file = code.co_filename
+        if file not in _own_files and not _is_met(file):
+            break
+        found += (code, outer.f_lasti)
+    return found
+
+
+def _is_met(file: str) -> bool:
+    """Whether a file that may be met for the first time is the program's own, and not that of a loop."""
+    return file not in _other_files and _OWN_FILES[file] and file not in _RUNNING
 
 
 def path_of(code: CodeType) -> str:

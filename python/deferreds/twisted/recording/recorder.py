@@ -29,6 +29,7 @@ from ..telling import (
     watched,
 )
 from ..texts import NULL, Outcome, Text, compact, weight_of
+from .arguments import WITH_ARGUMENTS, Call, arguments_of
 from .bodies import SHALLOW, Body, Run, Steps, Unsayable, forget_bodies
 from .hiding import SECRETS, Hiding
 from .inside import CALLED, KIND_OF_ACTION, MEDDLED, Inside, entry, is_entered, is_uncalled, reason_of, worked_on
@@ -230,6 +231,18 @@ class Recorder(Observer):
     def locate_action(self, action: Action, inside: int) -> None:
         """Notes where the program is, if that is where an action will have run. So many frames, from the caller's on, aren't its."""
         self.spots.note(action, 1 + inside)
+
+    def note_made(self, thing: Thing, made_at: Any) -> None:
+        """Notes where the lock or the queue was made that has this name, if that is known."""
+        if made_at is not None and made_at[1] is not None:
+            self.spots.places_of_things.append((thing, made_at))
+
+    def note_call(self, action: Action, body: Any) -> None:
+        """Notes what the generator or the coroutine of an inline body was called with."""
+        if type(body) in WITH_ARGUMENTS:
+            argument = self.texts.argument
+            given = [(name, argument(name, value)) for name, value in arguments_of(body)]
+            self.spots.calls.append(Call(action, body.__name__, given))
 
     def locate_await(self, awaited: Any, generator: Any) -> None:
         """Notes where the generator or the coroutine of an inline body stands, which awaits."""

@@ -6,8 +6,8 @@ told, since it wouldn't have been asked by itself.
 
 from __future__ import annotations
 
-from types import FunctionType
-from typing import Any, Callable, Dict, List, TypeVar
+from types import FunctionType, GetSetDescriptorType
+from typing import Any, Callable, Dict, List, Optional, TypeVar
 from zlib import crc32  # (by its own name: the program may replace that of the module)
 
 from twisted.python.failure import Failure
@@ -21,6 +21,10 @@ from .hiding import Hiding
 LONGEST, SHOWN = 200, 100
 #: in how many of the first characters or bytes of a longer text secrets are looked for
 LOOKED = 16_384
+#: how many items a dict has at most, and how many attributes an object, that are shown; how long their text is; and how deep dicts lie
+_MOST_PAIRS, _MOST_FIELDS, _LONGEST_OF_PAIRS, _DEEPEST_PAIRS = 10, 6, 120, 3
+#: how many characters of a long argument are looked at
+_LOOKED_OF_ARGUMENT = 400
 #: the most values of which one is shown in full, how deep, and how many items are shown of each list of a larger one
 MOST, DEEPEST, FIRST = 200, 20, 10
 
@@ -64,6 +68,12 @@ class Values(Texts):
         self._shows_integers = not hiding.hides_all
         self._whole: Dict[type, _Leaf] = {}
         self._ways: Dict[type, _Leaf] = {}
+        #: by the names of arguments, whether they say that these are secrets
+        self._secret_names: Dict[str, bool] = {}
+        #: by classes, whether the attributes of their objects are shown
+        self._states: Dict[type, bool] = {}
+        #: in how many dicts the one lies that is being shown
+        self._depth = 0
 
     def ask_by(self, ask: Callable[[Callable[[], Any]], Any]) -> None:
         """From here on this calls what may be code of the program's."""
@@ -205,6 +215,40 @@ class Values(Texts):
         is_twisteds = not message and own_message(error) is not None
         return message if is_twisteds else self.note(message)
 
+    # arguments
+
+    def argument(self, name: str, value: Any) -> Shown:
+        """The argument of this name, by which it may be a secret; an object that has no number yet by its type alone."""
+        kind = type(value)
+        if (kind is str or kind is bytes) and len(value) > LONGEST:
+            value = value[:_LOOKED_OF_ARGUMENT]
+        is_secret = self._secret_names.get(name)
+        if is_secret is None:
+            is_secret = self._secret_names[name] = self._hiding.names_secret(name)
+        if is_secret:
+            pair = self._bounded([name, value], self._of_argument)
+            return pair[1] if type(pair) is list else pair
+        return self._bounded(value, self._of_argument) if _is_list(kind) else self._of_argument(value)
+
+    def _of_argument(self, value: object) -> Shown:
+        known = self._named.get(id(value))
+        return known[1] if known is not None else self._inside(value)
+
+    def _inside(self, value: object) -> Shown:
+        """A value in a dict, which is no list. An object is shown by its type alone: it may get a number later, and the dict is the same then."""
+        kind = type(value)
+        is_plain = kind in (bool, type(None)) or issubclass(kind, (int, str, bytes, float, complex))
+        if is_plain:
+            return self._leaf(value)
+        name = clean(_name_of(kind))[:SHOWN]
+        if kind is not dict or self._depth >= _DEEPEST_PAIRS:
+            return f"<{name}>"
+        self._depth += 1
+        try:
+            return f"<{name}{self._contents(value)}>"
+        finally:
+            self._depth -= 1
+
     # objects
 
     def named(self, thing: object) -> Any:
@@ -216,18 +260,47 @@ class Values(Texts):
         if not _can_be_referred_to(thing):
             return f"<{kind}{self._contents(thing)}>"
         number = self._counts[kind] = self._counts.get(kind, 0) + 1
-        self.bind(thing, f"<{kind} {number}>")
+        self.bind(thing, f"<{kind} {number}{self._fields(thing)}>")
         return self._named[id(thing)][1]
 
     def _contents(self, thing: object) -> str:
         """How much something holds; of a dict a digest, too, that is the same for equal ones."""
         if isinstance(thing, dict):
             pairs = [list(pair) for pair in list(dict.items(thing))]
+            whole = self._pairs(pairs, ": ") if len(pairs) <= _MOST_PAIRS else None
+            if whole is not None:
+                return f" {{{whole}}}"
             return f" of {dict.__len__(thing):,}, {_digest(compact(self._bounded(pairs, self._unnamed)).encode())}"
         if isinstance(thing, (set, frozenset)):
             length = set.__len__(thing) if isinstance(thing, set) else frozenset.__len__(thing)
             return f" of {length:,}"
         return ""
+
+    def _fields(self, thing: object) -> str:
+        """The attributes of a small object that has only plain ones, as they are when it is seen first. None of its code is called."""
+        kind = type(thing)
+        is_plain = self._states.get(kind)
+        if is_plain is None:
+            is_plain = self._states[kind] = not self._hiding.hides_all and _has_plain_state(kind)
+        if not is_plain:
+            return ""
+        state: Any = object.__getattribute__(thing, "__dict__")
+        if type(state) is not dict or not 0 < len(state) <= _MOST_FIELDS:
+            return ""
+        pairs = [[name, value] for name, value in list(state.items()) if type(name) is str and type(value) in _PLAIN]
+        shown = self._pairs(pairs, "=") if len(pairs) == len(state) else None
+        return f" {shown}" if shown is not None else ""
+
+    def _pairs(self, pairs: List[List[Any]], between: str) -> Optional[str]:
+        """Names and values as a text, without secrets; None if that isn't short, or all values are hidden."""
+        if self._hiding.hides_all:
+            return None
+        shown = self._bounded(pairs, self._inside)
+        if type(shown) is not list or not all(type(pair) is list and len(pair) == 2 for pair in shown):
+            return None
+        is_named = between == "="
+        text = ", ".join(f"{name if is_named else written(name)}{between}{written(value)}" for name, value in shown)
+        return text if len(text) <= _LONGEST_OF_PAIRS else None
 
     def _unnamed(self, value: object) -> Shown:
         """A value that is no list, an object by its type alone."""
@@ -277,6 +350,21 @@ def _pretends(kind: type) -> bool:
         for base in kind.__mro__
         if base is not object
     )
+
+
+def _has_plain_state(kind: type) -> bool:
+    """Whether objects of a class have their attributes in a dict of Python's own."""
+    found = [base.__dict__["__dict__"] for base in kind.__mro__ if "__dict__" in base.__dict__]
+    return bool(found) and all(type(one) is GetSetDescriptorType for one in found)
+
+
+def written(shown: Shown) -> str:
+    """A value that is shown so, as Python has it."""
+    if type(shown) is str:
+        return shown if shown[:1] == "<" and shown[-1:] == ">" else repr(shown)
+    if type(shown) is list:
+        return f"[{', '.join(map(written, shown))}]"
+    return f"<{shown['fail']}>" if type(shown) is dict else repr(shown)
 
 
 def _can_be_referred_to(thing: object) -> bool:
@@ -356,6 +444,7 @@ class _Brief(_Full):
 
 
 #: classes of which it is known
+_PLAIN = frozenset({int, str, bool, type(None), float, bytes})
 _TEXTS = frozenset({str, bytes})
 _NO_LISTS = frozenset({int, str, bool, type(None), float, bytes, dict, Failure})
 

@@ -37,6 +37,8 @@ _SLOW = 0.35
 _EVEN = 0.6
 #: after how many times the chance has fallen to half: who posts ten thousand times is not held up for minutes
 _HALVES = 16
+#: after how many times nothing happens to one any more, and no hash is made
+_MOST_TIMES = 2_000
 
 
 class Settings(NamedTuple):
@@ -51,6 +53,13 @@ class Settings(NamedTuple):
     stretch: float = 1.0
     #: by how much the delays of these keys are longer, beside that
     lengths: Mapping[str, float] = {}
+    #: whether the clock jumps where nothing but time can bring anything
+    is_fast: bool = False
+
+    @property
+    def plain(self) -> Settings:
+        """The same, with nothing perturbed."""
+        return self._replace(kinds=frozenset(), only=None)
 
 
 class Choices:
@@ -66,7 +75,7 @@ class Choices:
 
     def size(self, kind: str, who: str, number: int) -> Optional[float]:
         """How large this perturbation is, from 0 to 1; None, if it doesn't happen."""
-        if kind not in self.settings.kinds:
+        if kind not in self.settings.kinds or number > _MOST_TIMES:
             return None
         key = f"{kind} {who} {number}"
         if self.settings.only is not None and key not in self.settings.only:

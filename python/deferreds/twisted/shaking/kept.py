@@ -2,17 +2,29 @@
 
 from __future__ import annotations
 
+import contextlib
 import json
 import shutil
 import tempfile
 from pathlib import Path
-from typing import Any, Dict, Mapping, Optional
+from typing import Any, Dict, Optional
 
 from ...view.names import RECORDING
 from ..recording.files import ENDINGS, Place, Written
+from .beside import Recording
 
 #: what the list of files says of the files, which is said anew where they get their place
 _OF_FILES = ("written by", "halves", "files", "replaced")
+
+
+def clear_folder(folder: Path) -> None:
+    """Removes what is in a folder, as far as it may."""
+    for path in folder.iterdir():
+        if path.is_dir() and not path.is_symlink():
+            shutil.rmtree(path, ignore_errors=True)
+        else:
+            with contextlib.suppress(OSError):
+                path.unlink()
 
 
 class Room:
@@ -25,11 +37,7 @@ class Room:
 
     def clear(self) -> None:
         """Removes what the run before has left."""
-        for path in self._folder.iterdir():
-            if path.is_dir() and not path.is_symlink():
-                shutil.rmtree(path, ignore_errors=True)
-            else:
-                path.unlink()
+        clear_folder(self._folder)
 
     @property
     def facts(self) -> Optional[Dict[str, Any]]:
@@ -45,14 +53,18 @@ class Room:
         facts = self.facts
         return facts is not None and all((self._folder / file).is_file() for file in facts["files"])
 
-    def keep(self, shaken: Mapping[str, Any]) -> Optional[Written]:
-        """Gives the recording its place, with what is known of how it was shaken; None, if there is none."""
+    def recording(self) -> Optional[Recording]:
+        """The recording that is there; None, if there is none."""
         facts = self.facts
         if facts is None:
             return None
-        files = {ending: path.read_text(encoding="utf-8") for ending in ENDINGS for path in [self.name.with_name(self.name.name + ending)] if path.is_file()}
-        said = {key: value for key, value in facts.items() if key not in _OF_FILES}
-        return self._place.write(files, {**said, "shaken": dict(shaken)})
+        texts = {ending: self.name.with_name(self.name.name + ending) for ending in ENDINGS}
+        return Recording({ending: path.read_text(encoding="utf-8") for ending, path in texts.items() if path.is_file()}, facts)
+
+    def keep(self, recording: Recording) -> Written:
+        """Gives a recording its place."""
+        said = {key: value for key, value in recording.facts.items() if key not in _OF_FILES}
+        return self._place.write(recording.files, said)
 
     def close(self) -> None:
         """Removes the folder."""

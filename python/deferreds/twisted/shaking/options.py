@@ -26,6 +26,7 @@ def add_options(parser: argparse.ArgumentParser) -> None:
     add("--within", type=_length, metavar="S", help=f"how many seconds a run may take: {_SECONDS:g}, if it isn't said")
     add("--shaken", metavar="KIND,..", help=f"shake these alone: {', '.join(KINDS)}")
     add("--longest", type=_length, metavar="MS", help=f"the longest delay in milliseconds: {MOST_MS:g}, if it isn't said")
+    add("--fast", action="store_true", help="have the clock jump over a wait in which nothing but time can bring anything")
     add("--only", action="append", metavar="KEY", help="shake only what has this key, as a search has named it; may be given several times")
     add("--reactor", metavar="NAME", help="with --test: install this reactor first")
     add("--no-cut", dest="cuts", action="store_false", help="don't look which perturbations a failure needs")
@@ -38,6 +39,7 @@ def problem_of(arguments: argparse.Namespace) -> str:
         return f"--shaken has no {', '.join(unknown)}: {', '.join(KINDS)}"
     if arguments.shake is None and arguments.seed is None:
         given = [name for name in ("until", "within", "shaken", "longest", "only", "reactor") if getattr(arguments, name) is not None]
+        given += ["fast"] if arguments.fast else []
         return f"--{given[0]} is for --shake and --seed" if given else ""
     if arguments.reactor is not None and not arguments.test:
         return "--reactor is for --test; a program installs its own"
@@ -57,7 +59,7 @@ def settings_of(arguments: argparse.Namespace) -> Settings:
     only: Optional[FrozenSet[str]] = None if arguments.only is None else frozenset(arguments.only)
     seed = _FIRST_SEED if arguments.seed is None else arguments.seed
     most = MOST_MS if arguments.longest is None else arguments.longest
-    return Settings(seed, _kinds(arguments), most, only)
+    return Settings(seed, _kinds(arguments), most, only, is_fast=arguments.fast)
 
 
 def wanted_of(arguments: argparse.Namespace) -> Wanted:

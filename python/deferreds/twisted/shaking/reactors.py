@@ -6,12 +6,13 @@ import importlib
 import math
 import select
 import selectors
-from typing import Any, Callable, List, Optional
+from typing import Any, Callable, Iterator, List, Optional
 
 from twisted.internet import pollreactor, selectreactor
 
 from .readiness import READ, WRITE, Readiness, Ready
 from .shaker import Shaker
+from .sockets import words_of
 
 _READINESS = "_shake_readiness"
 
@@ -84,7 +85,24 @@ def shake(shaker: Shaker) -> None:
 
 
 def _readiness(shaker: Shaker, reactor: Any) -> Readiness:
-    return Readiness(shaker, reactor, _child_waker())
+    return Readiness(shaker, reactor, _child_waker(), lambda: _watched(reactor))
+
+
+def _watched(reactor: Any) -> Iterator[str]:
+    """What a reactor watches, beside what wakes it, in words."""
+    for thing in [*reactor.getReaders(), *reactor.getWriters()]:
+        if thing not in reactor._internalReaders:
+            yield words_of(thing)
+
+
+def _watched_by_loop(reactor: Any, selector: Any) -> Iterator[str]:
+    """What asyncio's loop watches, beside what wakes it and the reactor, in words."""
+    yield from _watched(reactor)
+    known = {thing.fileno() for thing in reactor._internalReaders}
+    waker = getattr(reactor._asyncioEventloop, "_ssock", None)
+    for key in list(selector.get_map().values()):
+        if key.fd not in known and key.fileobj is not waker and (waker is None or key.fd != waker.fileno()):
+            yield "something of asyncio's"
 
 
 def _child_waker() -> type:
@@ -117,7 +135,8 @@ def _asyncio(shaker: Shaker) -> None:
         make(self, *args, **kwargs)
         loop = self._asyncioEventloop
         if hasattr(loop, "_selector"):  # (another loop than Python's own has none)
-            loop._selector = _Selector(loop._selector, _readiness(shaker, self))
+            selector = loop._selector
+            loop._selector = _Selector(selector, Readiness(shaker, self, _child_waker(), lambda: _watched_by_loop(self, selector)))
 
     setattr(AsyncioSelectorReactor, "__init__", __init__)
 

@@ -5,7 +5,7 @@ pauses before a delayed call.
 from __future__ import annotations
 
 import time
-from typing import Any, Callable, Dict, List, NamedTuple, Optional, Tuple
+from typing import Any, Callable, Dict, Iterable, List, NamedTuple, Optional, Tuple
 
 from .naming import ordinal
 from .shaker import Shaker
@@ -42,8 +42,10 @@ class _Turn:
 class Readiness:
     """What one reactor finds ready."""
 
-    def __init__(self, shaker: Shaker, reactor: Any, child_waker: type) -> None:
+    def __init__(self, shaker: Shaker, reactor: Any, child_waker: type, watched: Callable[[], Iterable[str]]) -> None:
+        """`watched`: what it watches, beside what wakes it, in words."""
         self._shaker = shaker
+        self._watched = watched
         self._reactor = reactor
         self._child_waker = child_waker
         #: the delayed call before which the machine has last paused, or might have
@@ -55,7 +57,7 @@ class Readiness:
         has_paused = False
         while True:
             left = None if deadline is None else max(0.0, deadline - _seconds())
-            found = ask(left)
+            found = ask(left) if self._shaker.fast is None else self._shaker.fast.wait(ask, left, self._watched)
             if not found:
                 if has_paused or not self._pauses():
                     return []

@@ -14,6 +14,7 @@ from typing import IO, Any, Callable, Counter as Counts, Dict, List, NamedTuple,
 from twisted.logger import globalLogPublisher
 
 from ..family import Family
+from .fast import Waits, waits_of
 from .log import Log
 from .shaker import CAME, MET
 
@@ -52,6 +53,8 @@ class Ended(NamedTuple):
     #: what was left at its end, where that is looked at
     left: Counts[str]
     seconds: float
+    #: what the reactor has waited for, and not, where the clock jumps
+    waits: Waits = Waits()
 
 
 class Run:
@@ -97,7 +100,8 @@ class Run:
         met = {line[1]: line[2] for line in lines if line[0] == MET}
         came = [(line[1], line[2]) for line in lines if line[0] == CAME]
         errors = Counter(line[1] for line in lines if line[0] == _ERROR)
-        return Ended(told[-1] if told and status is not None else status, output, met, came, errors, Counter(), seconds)
+        ends = told[-1] if told and status is not None else status
+        return Ended(ends, output, met, came, errors, Counter(), seconds, waits_of(lines))
 
     def _wait(self, most: float) -> Optional[int]:
         """What the system says of its end; None, if it takes longer."""

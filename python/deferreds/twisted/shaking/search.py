@@ -4,18 +4,20 @@ with that alone is recorded.
 
 from __future__ import annotations
 
-import itertools
 from collections import Counter
 from typing import Any, Callable, Counter as Counts, Dict, FrozenSet, List, Mapping, NamedTuple, Optional, Sequence
 
 from ...checkout import command_name
 from ...program import NOT_RUN
-from ...view.names import PLACES
+from ...view.names import COMPARED, ORDERS_SCRIPT
 from ...view.sizes import several
 from ..recording.files import Place
 from ..recording.messages import Messages
-from .choices import Choices, Settings
+from .beside import Recording, page_beside
+from .choices import MOST_MS, Choices, Settings
 from .failing import LEFT, Judge, Why
+from .fast import Waits
+from .in_orders import Ends, script_of
 from .install import install
 from .kept import Room
 from .knowing import why_unknown
@@ -25,6 +27,7 @@ from .needed import Cutting, Needed
 from .progress import Progress, runs
 from .runs import Ended, run
 from .shaker import Shaker
+from .stopping import Stopped
 from .telling_order import Seen, sentence
 
 #: the status if a run has failed, if none has, and if plain runs fail, so that there is nothing to look for
@@ -37,8 +40,6 @@ _MOST_CUTTING = 120
 #: how much longer delays are tried, if a recorded run doesn't fail, and how often each
 _STRETCHES = (1.0, 1.5, 2.0)
 _TRIES = 3
-#: how many perturbations the list of the files names at most
-_MOST_LISTED = 100
 _LINES_OF_OUTPUT = 3
 #: after how many runs that have met nothing no more are made: in a run each kind may be off, but not in all of these
 _MOST_UNMET = 12
@@ -51,6 +52,8 @@ class Program(NamedTuple):
     bare: Callable[[], int]
     #: runs it under the recorder, which writes a recording of this name, and gives the program's status
     recorded: Callable[[str], int]
+    #: removes what a run has left that has ended
+    clear: Callable[[], None] = lambda: None
 
 
 class Wanted(NamedTuple):
@@ -88,16 +91,20 @@ class Search:
         self._count = 0
         self.met: Counts[str] = Counter()
         self._is_kept = False
+        self._waits = Waits()
 
     def run(self) -> int:
-        """Looks. Gives the status of the command. Ctrl-C raises KeyboardInterrupt, and what was kept until then stays."""
+        """Looks. Gives the status of the command. Ctrl-C raises KeyboardInterrupt, and a signal Stopped; what was kept until then stays."""
         self._room = Room(self._place)
         try:
             return self._run()
-        except KeyboardInterrupt:
-            self._progress.say(f"stopped by Ctrl-C, after {runs(self._count)}; {'the recording stays' if self._is_kept else 'nothing is kept'}")
+        except (KeyboardInterrupt, Stopped) as stopped:
+            by = stopped.name if isinstance(stopped, Stopped) else "Ctrl-C"
+            self._progress.say(f"stopped by {by}, after {runs(self._count)}; {'the recording stays' if self._is_kept else 'nothing is kept'}")
             raise
         finally:
+            if self._wanted.settings.is_fast:
+                self._progress.say(self._waits.said)
             self._room.close()
 
     def _run(self) -> int:
@@ -110,7 +117,7 @@ class Search:
         found = self._find()
         if found is None:
             return PASSED
-        self._keep(found, (), None)
+        self._keep(found, found.settings.only, {})
         if self._wanted.cuts:
             self._explain(found)
         return FAILED
@@ -139,14 +146,26 @@ class Search:
 
     def _plain(self) -> Ended:
         """A run in which nothing is perturbed."""
+        if self._wanted.settings.is_fast:
+            return self._shaken(self._wanted.settings.plain)
         self._count += 1
         if self._wanted.until == LEFT:
             return self._recorded(lambda log: self._program.recorded(str(self._room.name)))
-        return run(lambda log: self._program.bare(), self._wanted.most_seconds)
+        return self._run_one(lambda log: self._program.bare())
+
+    def _run_one(self, program: Callable[[Log], int], is_written: Optional[Callable[[], bool]] = None) -> Ended:
+        """A run, of which nothing is left."""
+        try:
+            ended = run(program, self._wanted.most_seconds, is_written)
+        finally:
+            self._program.clear()
+        self._waits = self._waits.with_more(ended.waits)
+        return ended
 
     def _find(self) -> Optional[Found]:
-        """The first run that fails, of those of the seeds."""
+        """The first run that fails, of those of the seeds. One that has met nothing is a plain one, and is only said."""
         first, times = self._wanted.settings.seed, self._wanted.times
+        unshaken = 0
         for number in range(times):
             self._progress.show(f"{number} of {runs(times)}")
             if number == _MOST_UNMET and not self.met:
@@ -156,79 +175,106 @@ class Search:
             ended = self._shaken(settings)
             self.met.update(key.split(" ", 1)[0] for key in ended.met)
             why = self._judge.why(ended)
-            if why is not None:
+            if why is not None and not ended.met:
+                unshaken += 1
+                self._say_output(ended)
+                self._progress.say(f"the run of seed {settings.seed} fails, and has met nothing that is shaken: {why.text}{_longer(why)}")
+            elif why is not None:
                 self._say_output(ended)
                 self._progress.say(f"seed {settings.seed} fails, after {runs(number + 1)}, {self._progress.seconds}: {why.text}")
                 return Found(settings, why, ended)
         count = sum(self.met.values())
         met = f"they met {several(count, 'perturbation', 'perturbations')}" if count else "they met nothing that is shaken"
-        self._progress.say(f"none of {times} shaken runs failed, {self._progress.seconds}; {met}")
+        self._progress.say(f"none of {times - unshaken} shaken runs failed, {self._progress.seconds}; {met}")
         return None
 
-    def _shaken(self, settings: Settings, records: bool = False) -> Ended:
-        """A run that is perturbed by these."""
+    def _shaken(self, settings: Settings, records: bool = False, known: Mapping[str, object] = {}) -> Ended:
+        """A run that is perturbed by these. `known`: what its recording says of how it was shaken, beside what it knows itself."""
         self._count += 1
         if records or self._wanted.until == LEFT:
-            return self._recorded(lambda log: self._under_recorder(settings, log))
-        return run(lambda log: self._bare(settings, log), self._wanted.most_seconds)
+            return self._recorded(lambda log: self._under_recorder(settings, log, known))
+        return self._run_one(lambda log: self._bare(settings, log))
 
     def _bare(self, settings: Settings, log: Log) -> int:
         install(Shaker(Choices(settings), log, follows=True))
         return self._program.bare()
 
-    def _under_recorder(self, settings: Settings, log: Log) -> int:
+    def _under_recorder(self, settings: Settings, log: Log, known: Mapping[str, object]) -> int:
         from ..instruments import install as install_instruments
 
         install_instruments()  # (which hold Twisted's own functions: so these are perturbed after them)
-        install(Shaker(Choices(settings), log, follows=self._wanted.until == LEFT))
+        install(Shaker(Choices(settings), log, self._wanted.until == LEFT, known))
         return self._program.recorded(str(self._room.name))
 
     def _recorded(self, program: Callable[[Log], int]) -> Ended:
         self._room.clear()
-        ended = run(program, self._wanted.most_seconds, self._room.is_written)
+        ended = self._run_one(program, self._room.is_written)
         return ended._replace(left=left_of(self._room.name)) if self._wanted.until == LEFT else ended
 
     # what is kept
 
-    def _keep(self, found: Found, keys: Sequence[str], facts: Optional[Mapping[str, object]]) -> None:
-        """Records a run that fails like this one, by all perturbations or by these keys alone, and longer ones if that doesn't do."""
-        only = frozenset(keys) if facts is not None else found.settings.only
+    def _keep(self, found: Found, only: Optional[FrozenSet[str]], known: Mapping[str, object]) -> None:
+        """Records a run that fails like this one, by all perturbations or by these keys alone, and longer ones if that doesn't do.
+
+        `known`: what a failure takes, if that is found by now.
+        """
         for attempt in range(_TRIES * len(_STRETCHES)):
             self._progress.show(f"recording, attempt {attempt + 1}")
             settings = found.settings._replace(only=only, stretch=_STRETCHES[attempt // _TRIES])
-            ended = self._shaken(settings, records=True)
+            ended = self._shaken(settings, records=True, known=known)
             why = self._judge.why(ended)
             if why is not None and why.is_late == found.why.is_late:
-                self._write(settings, why, ended, facts)
+                self._write(settings, why, is_last=bool(known) or not self._wanted.cuts)
                 return
         stays = "; the one with all perturbations stays" if self._is_kept else ""
         self._progress.say(f"none of {runs(_TRIES * len(_STRETCHES))} that were recorded failed{stays}")
 
-    def _write(self, settings: Settings, why: Why, ended: Ended, facts: Optional[Mapping[str, object]]) -> None:
-        shaken = {
-            "seed": settings.seed,
-            "kinds": sorted(settings.kinds),
-            "most ms": settings.most,
-            "longer": settings.stretch,
-            "fails": why.text,
-            **(facts if facts is not None else {"perturbations": dict(itertools.islice(ended.met.items(), _MOST_LISTED)), "of": len(ended.met)}),
-        }
-        facts_of_it = self._room.facts or {}
-        written = self._room.keep(shaken)
-        if written is None:
+    def _write(self, settings: Settings, why: Why, is_last: bool) -> None:
+        """Gives a recording its place, at once. `is_last`: no other takes that, so it is shown beside a run that passes then."""
+        recording = self._room.recording()
+        if recording is None:
             self._progress.say(f"the failing run has left no recording: it {'was ended before that' if why.is_late else 'has used no Deferreds'}")
             return
+        recording = recording._replace(facts={**recording.facts, "shaken": {**recording.facts.get("shaken", {}), "fails": why.text}})
+        written = self._room.keep(recording)
         for failure in written.failures:
             self._progress.say(failure)
-        if written.is_any:
-            self._is_kept = True
-            if facts is not None or not self._wanted.cuts:
-                self._progress.say(f"{written.name}.html shows the run that fails, and {written.name}.recording lists its files")
-                self._say_if_no_script(facts_of_it)
+        if not written.is_any:
+            return
+        self._is_kept = True
+        if is_last:
+            self._progress.say(f"{written.name}.html shows the run that fails, and {written.name}.recording lists its files")
+            if not recording.has_script:
+                self._progress.say(str(recording.facts.get("compared", "")))
+            self._add_beside(settings, recording, why)
 
-    def _say_if_no_script(self, facts: Mapping[str, Any]) -> None:
-        if not any(file.endswith(".json") and not file.endswith(PLACES) for file in facts.get("files", ())):
-            self._progress.say(str(facts.get("compared", "")))
+    def _add_beside(self, settings: Settings, recording: Recording, why: Why) -> None:
+        """Adds to a recording that has its place what shows it beside a run that passes."""
+        passing = self._passing(settings)
+        if passing is None:
+            return
+        more = {COMPARED: page_beside(self._place.name.name, recording, passing)}
+        said = [f"{self._place.shown(COMPARED)} shows it beside a run that passes"]
+        room = self._room.name.with_name(f"{self._room.name.name}{ORDERS_SCRIPT}")
+        script = script_of(list(settings.only or ()), Ends(recording, why.is_late), passing, room, self._place.shown(ORDERS_SCRIPT))
+        if script is not None:
+            more[ORDERS_SCRIPT] = script.text
+            said.append(script.said)
+        written = self._room.keep(recording._replace(files={**recording.files, **more}))
+        for line in [*written.failures, *(said if written.is_any else [])]:
+            self._progress.say(line)
+
+    def _passing(self, settings: Settings) -> Optional[Recording]:
+        """The recording of a run that passes: by all needed perturbations but one, or else by none. None, if there is none."""
+        keys = sorted(settings.only or ())
+        fewer = [frozenset(keys) - {key} for key in keys if len(keys) > 1]
+        tried = [*fewer, *[frozenset[str]()] * _TRIES]
+        for only in tried:
+            self._progress.show(f"recording a run that passes, {runs(self._count)}")
+            if self._judge.why(self._shaken(settings._replace(only=only), records=True)) is None:
+                return self._room.recording()
+        self._progress.say(f"none of {runs(len(tried))} with fewer perturbations passed, so none stands beside it")
+        return None
 
     # what is needed
 
@@ -244,11 +290,11 @@ class Search:
         sentences = [self._sentence(found, needed.keys, key, words[key]) for key in needed.keys]
         said = f"it fails if {', and '.join(dict.fromkeys(sentences))}"
         self._progress.say(said)
+        known: Dict[str, object] = {"needs": said, "of": len(all_keys)}
         if self._wanted.says_again:
-            again = " ".join(f"--only '{key}'" for key in needed.keys)
-            self._progress.say(f"again: --seed {found.settings.seed} {again}")
-        facts = {"perturbations": {key: words[key] for key in needed.keys}, "needs": said, "of": len(all_keys)}
-        self._keep(found, needed.keys, facts)
+            known["again"] = _again(found.settings, needed.keys)
+            self._progress.say(f"again: {known['again']}")
+        self._keep(found, frozenset(needed.keys), known)
 
     def _fails(self, found: Found, only: FrozenSet[str]) -> bool:
         self._progress.show(f"cutting down, {runs(self._count)}")
@@ -287,6 +333,13 @@ class Search:
         lines = [line for line in ended.output.rstrip().splitlines() if not line.startswith(own)]
         for line in lines[-_LINES_OF_OUTPUT:]:
             self._progress.say(f"  | {line}")
+
+
+def _again(settings: Settings, keys: Sequence[str]) -> str:
+    """The options by which a run is shaken by these keys alone."""
+    longest = [f"--longest {settings.most:g}"] if settings.most != MOST_MS else []
+    fast = ["--fast"] if settings.is_fast else []
+    return " ".join([f"--seed {settings.seed}", *longest, *fast, *(f"--only '{key}'" for key in keys)])
 
 
 def _longer(why: Why) -> str:

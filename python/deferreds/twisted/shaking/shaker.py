@@ -3,9 +3,10 @@
 from __future__ import annotations
 
 import time
-from typing import Optional
+from typing import Any, Dict, Mapping, Optional
 
 from .choices import Choices
+from .fast import Fast
 from .log import Log
 
 #: the lines of the log
@@ -13,6 +14,8 @@ MET, CAME = "met", "came"
 
 #: how many things that come are noted
 _MOST_CAME = 20_000
+#: how many perturbations the facts name
+_MOST_LISTED = 100
 
 _sleep = time.sleep
 
@@ -20,13 +23,19 @@ _sleep = time.sleep
 class Shaker:
     """Perturbs a run by choices."""
 
-    def __init__(self, choices: Choices, log: Optional[Log] = None, follows: bool = False) -> None:
-        """`follows`: what comes is noted, too, in its order."""
+    def __init__(self, choices: Choices, log: Optional[Log] = None, follows: bool = False, known: Mapping[str, object] = {}) -> None:
+        """`follows`: what comes is noted, too, in its order. `known`: what a search knows of the failure, for the facts."""
         self._choices = choices
         self._log = log
+        self._known = known
+        #: the first perturbations that were met, and how many were
+        self._met: Dict[str, str] = {}
+        self._count = 0
         self._left = _MOST_CAME if follows else 0
         #: whether nothing is perturbed for now
         self.is_calm = False
+        #: the clock that jumps, if it does
+        self.fast = Fast(log) if choices.settings.is_fast else None
 
     @property
     def follows(self) -> bool:
@@ -51,8 +60,27 @@ class Shaker:
 
     def meet(self, kind: str, who: str, number: int, words: str) -> None:
         """Notes that a perturbation happens."""
+        key = f"{kind} {who} {number}"
+        self._count += 1
+        if len(self._met) < _MOST_LISTED:
+            self._met[key] = words
         if self._log is not None:
-            self._log.write(MET, f"{kind} {who} {number}", words)
+            self._log.write(MET, key, words)
+
+    @property
+    def facts(self) -> Dict[str, Any]:
+        """How the run is shaken, for its recording."""
+        settings = self._choices.settings
+        return {
+            "seed": settings.seed,
+            "kinds": sorted(settings.kinds),
+            "most ms": settings.most,
+            "longer": settings.stretch,
+            "fast": settings.is_fast,
+            "perturbations": dict(self._met),
+            "of": self._count,
+            **self._known,
+        }
 
     def come(self, what: str, words: str) -> None:
         """Notes that something has come, which is known by this name in each run."""

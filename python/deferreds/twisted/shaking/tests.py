@@ -5,6 +5,7 @@ from __future__ import annotations
 import os
 import tempfile
 import unittest
+from pathlib import Path
 from typing import Any, List, NamedTuple, Sequence, Tuple
 
 from twisted.application.reactors import getReactorTypes, installReactor
@@ -14,6 +15,7 @@ from twisted.trial.unittest import SynchronousTestCase, TestCase
 from ..recording.case import run_test as run_recorded
 from ..recording.programs import NotLoaded, tests_of
 from ..recording.recorder import Recorder
+from .kept import clear_folder
 from .log import Log
 from .runs import run
 from .shaker import CAME
@@ -58,6 +60,10 @@ class ShakenTest(NamedTuple):
         [(cls, method)] = tests_of(self.name)
         os.chdir(tempfile.mkdtemp(dir=self.room))
         return cls(method)
+
+    def clear(self) -> None:
+        """Removes the folders of its runs."""
+        clear_folder(Path(self.room))
 
 
 def has_reactor(name: str) -> bool:
