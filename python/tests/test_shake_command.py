@@ -141,6 +141,13 @@ class SearchTest(ShakenCase):
         self.assertIn("plain run 1 of 3 fails, which isn't shaken: `false` has status 1\n", wrong.said)
         self.assertIn("nothing is shaken, since no plain run passes\n", wrong.said)
 
+    def test_a_program_that_serves_for_ever_is_told_to_end(self) -> None:
+        (self.folder / "serves.py").write_text("from twisted.internet import reactor\nreactor.run()\n", encoding="utf-8")
+        ended = self.record("--shake", "2", "--within", "0.5", "serves.py")
+        self.assertEqual((ended.status, self.files()), (2, ["serves.py"]), ended.said)
+        self.assertIn("plain run 3 of 3 fails, which isn't shaken: it takes longer than 0.5 s; --within S gives it longer\n", ended.said)
+        self.assertIn("no plain run passes; a program that serves for ever needs an end, as a timer that stops the reactor\n", ended.said)
+
     def test_what_meets_nothing_is_given_up(self) -> None:
         (self.folder / "nothing.py").write_text("print(1)\n", encoding="utf-8")
         ended = self.record("--shake", "500", "nothing.py")

@@ -142,6 +142,7 @@ class Search:
     def _has_plain(self) -> bool:
         """Makes plain runs, by which the others are judged, and says which of them fail: a busy machine shakes, too. Whether one passes."""
         passing: List[Ended] = []
+        is_late = True
         for number in range(1, _PLAIN + 1):
             self._progress.show(f"plain run {number} of {_PLAIN}")
             ended = self._plain()
@@ -150,11 +151,13 @@ class Search:
                 passing.append(ended)
                 continue
             self._is_busy = True
+            is_late = is_late and why.is_late
             self._say_output(ended)
             self._progress.say(f"plain run {number} of {_PLAIN} fails, which isn't shaken: {why.text}{_longer(why)}")
         self._judge = self._judging(passing)
         if not passing:
-            self._progress.say("nothing is shaken, since no plain run passes")
+            end = "; a program that serves for ever needs an end, as a timer that stops the reactor" if is_late else ""
+            self._progress.say(f"nothing is shaken, since no plain run passes{end}")
         return bool(passing)
 
     def _plain(self) -> Ended:
