@@ -30,7 +30,7 @@ class Kind(enum.Enum):
     HELD = "held"
     WENT_ON = "went on"
     KEPT = "kept"
-    NOT_RETURNED = "not returned"
+    NOT_RETURNED = "no return"
     ODD = "odd"
     OVERTAKEN = "overtaken"
     UNFIRED = "unfired"
