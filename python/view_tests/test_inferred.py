@@ -93,7 +93,7 @@ class TokensThatAreHeld(unittest.TestCase):
         self.assertEqual((found.kind, found.severity, found.row), (Kind.HELD, Severity.BAD, 3))
         self.assertIn(
             'held #0·body took a token of l at a.py:7 and never released it (line 4) | its body failed with ValueError "no" in line 12 | '
-            "1 of 1 token of l is held: given 1 time, released 0 times",
+            "1 of 1 token of l is held: taken 1 time, released 0 times",
             report_of(run),
         )
 

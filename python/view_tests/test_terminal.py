@@ -69,7 +69,7 @@ class Shown(unittest.TestCase):
             [Terminal(run, False).copied(finding) for finding in run.report.findings[1:]],
             [
                 "test: unfired, line 1\nnobody fired #0·d\n  1 pair waits\n",
-                "test: token, line 5\n1 of 1 token of l is held\n  given 1 time, released 0 times\n  held for #1·t since line 5\n  #2·w waits for a token of l\n",
+                "test: token, line 5\n1 of 1 token of l is held\n  taken 1 time, released 0 times\n  held for #1·t since line 5\n  #2·w waits for a token of l\n",
             ],
         )
 

@@ -31,6 +31,7 @@ row is written as its distance from the one before.
 | `brackets` | of each bracket: its kind, the row in which it begins, that in which it ends or -1 |
 | `deferreds` | for each Deferred of these rows, an array of those in `FIELDS` |
 | `stacks` | of some Deferreds, by their numbers: the places of the functions in which it was made, innermost first, part by part |
+| `calls` | of some Deferreds, by their numbers: what the inline body was called with |
 | `tables` | the numbers of the Deferreds in each table of outcomes, by the id of what holds it |
 | `axis` | the end of the axis of time, its marks as pairs of a time and a text, and the Deferreds on it; or null |
 | `copied` | the rows of the report as texts |
@@ -181,6 +182,7 @@ class Data:
             "brackets": self._brackets(),
             "deferreds": [deferred_of(run, record, self._phrases.form) for record in self._told()],
             "stacks": {record.number: self._stack(record) for record in self._told() if run.places.stack_of(record.names)},
+            "calls": {record.number: visible(call) for record in self._told() for call in [run.places.call_of(record.names)] if call},
             "tables": self._outcomes.tables,
             "axis": self._axis.form,
             "copied": list(self._copied),

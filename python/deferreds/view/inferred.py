@@ -5,7 +5,7 @@ What each says is exact, unless it says otherwise; that it is the cause is a gue
 
 from __future__ import annotations
 
-from typing import Dict, List, Optional, Sequence, Set, Tuple
+from typing import Callable, Dict, List, Optional, Sequence, Set, Tuple
 
 from .after_cancel import WentOn, went_on
 from .bodies import Bodies
@@ -35,9 +35,12 @@ _MOST_HELD = 3
 class Inferred:
     """What may be the cause of what is left, or of what went another way than usual."""
 
-    def __init__(self, fold: Fold, script: Script, places: Places, row_places: RowPlaces, durations: Durations, tick: str) -> None:
+    def __init__(
+        self, fold: Fold, script: Script, places: Places, row_places: RowPlaces, durations: Durations, tick: str, bodies: Callable[[], Bodies]
+    ) -> None:
         self._fold = fold
         self._script = script
+        self._find_bodies = bodies
         self._places = places
         self._row_places = row_places
         self._durations = durations
@@ -62,7 +65,7 @@ class Inferred:
     @property
     def _bodies(self) -> Bodies:
         if self._known_bodies is None:
-            self._known_bodies = Bodies(self._fold, self._script.bodies)
+            self._known_bodies = self._find_bodies()
             self._asked = asked_in(self._fold)
             self._note_bodies(self._known_bodies)
         return self._known_bodies
@@ -109,7 +112,7 @@ class Inferred:
         guess: List[Phrase] = [] if holders.is_sure else [("which of its tokens were released is a guess",)]
         given = sum(deferred >= 0 for deferred, _ in lock.moves)
         back = len(lock.moves) - given
-        counts: Phrase = (f"given {several(given, 'time', 'times')}, released {several(back, 'time', 'times')}",)
+        counts: Phrase = (f"taken {several(given, 'time', 'times')}, released {several(back, 'time', 'times')}",)
         is_held = "is held" if one.given == 1 else "are held"
         said: Phrase = (f"{one.given} of {several(one.tokens, 'token', 'tokens')} of {lock.name} {is_held}",)
         lost = next((held for held in holders.held if self._is_lost(held)), None)
