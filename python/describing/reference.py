@@ -1,0 +1,149 @@
+"""`make_reference [--write] [SUBJECT ..]`: checks docs/reference, or makes it anew from its points.
+
+For each point the program is recorded on real Twisted, and the script beside it has to print the journal of that. Each page has to be the
+one that is made of the points. With --write a point without a script gets the recorded one, and the pages are written; a script that
+prints another journal is only named: remove it to have it recorded anew. With SUBJECT only the points of that subject are recorded.
+
+Without Twisted no program is recorded, and the last line says so. Status 0: each point holds; 1: one doesn't, or a page isn't what is
+made; 64: the arguments are wrong; 70: there is no program for these sources.
+"""
+
+from __future__ import annotations
+
+import argparse
+import importlib.util
+import re
+import sys
+from pathlib import Path
+from typing import Dict, List, Optional
+
+from deferreds.arguments import USAGE, Parser
+from deferreds.ending import run_command
+from deferreds.program import NOT_RUN, NotRun, built
+
+from .point_pages import Runs, pages, run_all
+from .point_recordings import Recording, record_all
+from .points import BadPoint, Point, subjects
+
+#: by this entry of docs/TWISTED.md the times of results are the script's own
+_OWN_TIMES = "results-at-their-times"
+
+
+def has_twisted() -> bool:
+    """Whether programs can be recorded."""
+    return importlib.util.find_spec("twisted") is not None
+
+
+def without_times(journal: str) -> str:
+    """A journal without the times at which results of jobs are due."""
+    return re.sub(r"^(later job \d+|advance) \d+$", r"\1", journal, flags=re.MULTILINE)
+
+
+def first_difference(expected: str, found: str) -> Optional[str]:
+    """The first line in which two texts differ."""
+    wanted, got = expected.splitlines(), found.splitlines()
+    for number in range(max(len(wanted), len(got))):
+        lines = [text[number] if number < len(text) else "nothing" for text in (wanted, got)]
+        if lines[0] != lines[1]:
+            return f"line {number + 1} is {lines[1]!r}, not {lines[0]!r}"
+    return None
+
+
+def problem_of(point: Point, recording: Recording, journal: str) -> Optional[str]:
+    """Why a point doesn't hold: its program can't be recorded, or its script prints something else."""
+    if recording.status != 0 or not recording.script:
+        return f"status {recording.status}: {recording.said.strip()}"
+    expected = recording.journal
+    if _OWN_TIMES in point.leaves:
+        expected, journal = without_times(expected), without_times(journal)
+    different = first_difference(expected, journal)
+    return None if different is None else f"the script prints another journal than the program: {different}"
+
+
+def write_scripts(points: List[Point], recordings: Dict[str, Recording]) -> None:
+    """Writes the scripts of points that have none."""
+    for point in points:
+        recording = recordings.get(point.name)
+        if recording is not None and recording.script and not point.script.is_file():
+            point.script.write_text(recording.script, encoding="utf-8")
+            print(f"{point.script} is written")
+
+
+def problems_of(points: List[Point], recordings: Dict[str, Recording], runs: Dict[str, Runs]) -> List[str]:
+    """What is wrong with these points."""
+    found = []
+    for point in points:
+        recording = recordings.get(point.name)
+        problem = None if recording is None else problem_of(point, recording, runs[point.name].journal)
+        if not point.script.is_file():
+            problem = problem or "it has no script; --write writes it"
+        if problem is not None:
+            found.append(f"{point.program}: {problem}")
+    return found
+
+
+def stale(made: Dict[Path, str], writes: bool) -> List[str]:
+    """The pages that aren't what is made, which are written if that is asked for."""
+    found = []
+    for path, text in made.items():
+        present = path.read_text(encoding="utf-8") if path.is_file() else ""
+        different = first_difference(text, present)
+        if different is not None and writes:
+            path.write_text(text, encoding="utf-8")
+            print(f"{path} is written")
+        elif different is not None:
+            found.append(f"{path} isn't what is made of its points, {different}; python/make_reference --write makes it")
+    return found
+
+
+def check(program: Path, asked: List[str], writes: bool) -> int:
+    """Checks or writes the reference. Raises BadPoint if a file isn't in its form."""
+    listed = subjects()
+    points = [point for subject in listed for point in subject.points]
+    chosen = [point for point in points if not asked or point.program.parent.name in asked]
+    recordings = record_all(chosen) if has_twisted() else {}
+    if writes:
+        write_scripts(chosen, recordings)
+    runs = run_all(program, points)
+    problems = problems_of(chosen, recordings, runs) + stale(pages(listed, runs), writes)
+    for problem in problems:
+        print(problem)
+    held = f"{len(points)} points on {len(listed)} pages"
+    if problems:
+        print(f"{held}: {len(problems)} problems")
+        return 1
+    print(f"{held}: {said_of(recordings, len(points))}")
+    return 0
+
+
+def said_of(recordings: Dict[str, Recording], points: int) -> str:
+    """What was checked, if there was no problem."""
+    if not recordings:
+        return "each script prints its journal; no program was recorded, since Twisted isn't here"
+    import twisted
+
+    many = "each holds" if len(recordings) == points else f"{len(recordings)} were recorded, and hold"
+    return f"{many} on Twisted {twisted.__version__}"
+
+
+def main() -> int:
+    parser = Parser(prog="make_reference", description=__doc__, formatter_class=argparse.RawDescriptionHelpFormatter)
+    parser.add_argument("--write", action="store_true", help="write missing scripts, and the pages")
+    parser.add_argument("subjects", nargs="*", metavar="SUBJECT", help="a subject to record alone, as callbacks")
+    asked = parser.parse_args()
+    try:
+        unknown = sorted({*asked.subjects} - {subject.name for subject in subjects()})
+        if unknown:
+            print(f"make_reference: there is no subject {unknown[0]}", file=sys.stderr)
+            return USAGE
+        return check(built(), asked.subjects, asked.write)
+    except BadPoint as why:
+        print(f"make_reference: {why}", file=sys.stderr)
+        return 1
+    except NotRun as why:
+        print(f"make_reference: {why}", file=sys.stderr)
+        return NOT_RUN
+
+
+if __name__ == "__main__":
+    run_command(main, "make_reference")
