@@ -55,14 +55,27 @@ def wanted_name(name: str, variables: Mapping[int, str], made_at: Optional[int])
 
 
 def assigned(source: str) -> Dict[int, str]:
-    """For each line of a program, the variable that its innermost statement assigns."""
+    """For each line of a program, the variable that its innermost statement assigns, or else the function that it schedules."""
     found: Dict[int, str] = {}
     for node in ast.walk(ast.parse(source)):  # (from the outermost inward)
-        if isinstance(node, ast.Assign):
-            target = node.targets[0]
-            if isinstance(target, ast.Name):
-                found.update(dict.fromkeys(range(node.lineno, (node.end_lineno or node.lineno) + 1), target.id))
+        name = _named_by(node)
+        if name is not None and isinstance(node, ast.stmt):
+            found.update(dict.fromkeys(range(node.lineno, (node.end_lineno or node.lineno) + 1), name))
     return found
+
+
+def _named_by(node: ast.AST) -> Optional[str]:
+    """The name that a statement has for what it makes: `a` of `a = ..`, and `a_callback` of `clock.callLater(5, a.callback)`."""
+    if isinstance(node, ast.Assign) and isinstance(node.targets[0], ast.Name):
+        return node.targets[0].id
+    if not isinstance(node, ast.Expr) or not isinstance(node.value, ast.Call) or len(node.value.args) < 2:
+        return None
+    called, scheduled = node.value.func, node.value.args[1]
+    if not isinstance(called, ast.Attribute) or called.attr != "callLater":
+        return None
+    if isinstance(scheduled, ast.Attribute) and isinstance(scheduled.value, ast.Name):
+        return f"{scheduled.value.id}_{scheduled.attr}"
+    return scheduled.id if isinstance(scheduled, ast.Name) else None
 
 
 def renamed(text: str, new_names: Mapping[str, str]) -> str:

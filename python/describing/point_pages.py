@@ -95,7 +95,7 @@ def place(path: Path) -> str:
 
 def leaving(entry: str) -> str:
     """The paragraph that names an entry of docs/TWISTED.md."""
-    return f"Twisted does otherwise here: [`{entry}`](../TWISTED.md#where-this-leaves-twisted)."
+    return f"Here this leaves Twisted: [`{entry}`](../TWISTED.md#where-this-leaves-twisted)."
 
 
 def anchor(title: str) -> str:

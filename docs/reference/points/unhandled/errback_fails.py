@@ -1,8 +1,8 @@
-"""An errback that raises has its own failure take the place of the first one.
+"""If an errback raises, its own failure takes the place of the first one.
 
 A bug in an errback hides the error that it was to handle. The new failure goes on to the next errback.
 
-Look at the two lines `set`: after the first one, nothing tells of the disk any more.
+Look at the first `set`: the result is a KeyError from there on, and the OSError is gone.
 """
 
 from twisted.internet.defer import Deferred
