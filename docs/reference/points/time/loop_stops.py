@@ -1,6 +1,6 @@
 """The Deferred of `start` fires when the loop is stopped.
 
-Its value is the loop. If a turn still waits for its Deferred, `stop` is only noted, and the loop ends when that has its result.
+Its value is the loop. If a turn still waits for its Deferred, the loop ends when that has its result. No turn follows.
 
 Look at `stop`: no `fire` of `polling` follows it before the answer has come.
 """
