@@ -48,7 +48,8 @@ def _record_all(waiting: List[Point], room: Path) -> Dict[str, Recording]:
             output = room / point.name.replace("/", "_")
             running[_start(point, output)] = point, output
             continue
-        process, status = os.wait()
+        process = next(iter(running))  # (the one that began first; others of this process's children aren't waited for)
+        _, status = os.waitpid(process, 0)
         point, output = running.pop(process)
         found[point.name] = _read(point, output, os.waitstatus_to_exitcode(status))
     return found

@@ -27,6 +27,8 @@ from .points import BadPoint, Point, subjects
 
 #: by this entry of docs/TWISTED.md the times of results are the script's own
 _OWN_TIMES = "results-at-their-times"
+#: a last line of a run: the name and the outcome
+_OUTCOME = re.compile(r"^#\d+ (\S+) (.+)$", re.MULTILINE)
 
 
 def has_twisted() -> bool:
@@ -49,11 +51,22 @@ def first_difference(expected: str, found: str) -> Optional[str]:
     return None
 
 
-def problem_of(point: Point, recording: Recording, journal: str) -> Optional[str]:
-    """Why a point doesn't hold: its program can't be recorded, or its script prints something else."""
+def missing_outcome(journal: str, orders: str) -> Optional[str]:
+    """The outcome of a run, as its last lines say it, that stands in no line of what `--orders` prints."""
+    for name, outcome in _OUTCOME.findall(journal):
+        if not re.search(rf"^{re.escape(name)} \d+ {re.escape(outcome)} in \d+ order", orders, re.MULTILINE):
+            return f"{name} {outcome}"
+    return None
+
+
+def problem_of(point: Point, recording: Recording, runs: Runs) -> Optional[str]:
+    """Why a point doesn't hold: its program can't be recorded, its script prints something else, or no order ends as the program."""
     if recording.status != 0 or not recording.script:
         return f"status {recording.status}: {recording.said.strip()}"
-    expected = recording.journal
+    missing = missing_outcome(recording.journal, runs.orders) if runs.orders else None
+    if missing is not None:
+        return f"the program ends with {missing}, and no order does"
+    expected, journal = recording.journal, runs.journal
     if _OWN_TIMES in point.leaves:
         expected, journal = without_times(expected), without_times(journal)
     different = first_difference(expected, journal)
@@ -74,7 +87,7 @@ def problems_of(points: List[Point], recordings: Dict[str, Recording], runs: Dic
     found = []
     for point in points:
         recording = recordings.get(point.name)
-        problem = None if recording is None else problem_of(point, recording, runs[point.name].journal)
+        problem = None if recording is None else problem_of(point, recording, runs[point.name])
         if not point.script.is_file():
             problem = problem or "it has no script; --write writes it"
         if problem is not None:
