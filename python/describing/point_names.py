@@ -82,5 +82,5 @@ def renamed(text: str, new_names: Mapping[str, str]) -> str:
     """A script or a journal with the new names."""
     if not new_names:
         return text
-    old = "|".join(sorted(map(re.escape, new_names), key=len, reverse=True))
+    old = "|".join(re.escape(name) for name in sorted(new_names, key=len, reverse=True))
     return re.sub(rf"\b(?:{old})\b", lambda found: new_names[found.group()], text)

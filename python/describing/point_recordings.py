@@ -2,9 +2,9 @@
 
 from __future__ import annotations
 
+import atexit
 import json
 import os
-import shutil
 import sys
 import tempfile
 from pathlib import Path
@@ -30,12 +30,8 @@ def record_all(points: Iterable[Point]) -> Dict[str, Recording]:
     """The recording of each point, by its name."""
     import deferreds.twisted.commands.record  # noqa: F401 (each process has it then)
 
-    # (no TemporaryDirectory, which a recorded program would remove at its end: the recorder runs what is to run then)
-    room = tempfile.mkdtemp(prefix="reference.")
-    try:
+    with tempfile.TemporaryDirectory(prefix="reference.") as room:
         return _record_all(list(points), Path(room))
-    finally:
-        shutil.rmtree(room)
 
 
 def _record_all(waiting: List[Point], room: Path) -> Dict[str, Recording]:
@@ -62,6 +58,7 @@ def _start(point: Point, output: Path) -> int:
     process = os.fork()
     if process == 0:
         status = 1
+        atexit._clear()  # (the recorder runs what is to run at the end of a program, and that isn't what this process has registered)
         try:
             status = _record(["-o", os.fspath(output), *([] if point.has_threads else ["--virtual"]), os.fspath(point.program)], output)
         finally:
