@@ -2,7 +2,6 @@
 
 from __future__ import annotations
 
-import json
 import os
 import re
 import subprocess
@@ -10,7 +9,7 @@ from concurrent.futures import ThreadPoolExecutor
 from pathlib import Path
 from typing import Dict, Iterable, List, NamedTuple
 
-from .points import FOLDER, BadPoint, Point, Subject
+from .points import FOLDER, BadPoint, Point, Question, Subject, questions
 
 _SECONDS = 60
 
@@ -50,6 +49,7 @@ def _printed(program: Path, script: Path, further: Iterable[int], *words: str) -
 def pages(listed: List[Subject], runs: Dict[str, Runs]) -> Dict[Path, str]:
     """The text of each page, by its path."""
     found = {FOLDER / f"{subject.name}.md": subject_page(subject, runs) for subject in listed}
+    found[FOLDER / "questions.md"] = questions_page(questions(), listed, runs)
     found[FOLDER / "README.md"] = first_page((FOLDER / "points" / "README.txt").read_text(encoding="utf-8"), listed)
     return found
 
@@ -60,6 +60,21 @@ def first_page(text: str, listed: List[Subject]) -> str:
     for subject in listed:
         lines = [f"- [{point.title}]({subject.name}.md#{anchor(point.title)})" for point in subject.points]
         parts += [f"## [{subject.title}]({subject.name}.md)", "\n".join(lines)]
+    return "\n\n".join(parts) + "\n"
+
+
+def questions_page(asked: List[Question], listed: List[Subject], runs: Dict[str, Runs]) -> str:
+    """The page of questions. Raises BadPoint if one names no point."""
+    points = {point.name: point for subject in listed for point in subject.points}
+    parts = ["# Questions", "Each answer is shown by a run, which is a point of another page."]
+    parts.append("\n".join(f"- [{question.asked}](#{anchor(question.asked)})" for question in asked))
+    for question in asked:
+        point = points.get(question.point)
+        if point is None:
+            raise BadPoint(FOLDER / "points" / "QUESTIONS.txt", f"there is no point {question.point}")
+        page = f"{point.program.parent.name}.md#{anchor(point.title)}"
+        parts += [f"## {question.asked}", question.answer, block("python", point.python)]
+        parts += [f"The run of this point, [{point.title}]({page}):", block("", runs[point.name].journal)]
     return "\n\n".join(parts) + "\n"
 
 
@@ -101,8 +116,3 @@ def leaving(entry: str) -> str:
 def anchor(title: str) -> str:
     """The anchor that a heading has on a page."""
     return re.sub(r"[^\w -]", "", title.lower()).replace(" ", "-")
-
-
-def has_callers(script: Path) -> bool:
-    """Whether a script has posts, so that runs of it may differ."""
-    return bool(json.loads(script.read_text(encoding="utf-8")).get("callers"))

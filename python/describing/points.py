@@ -71,6 +71,28 @@ class Subject(NamedTuple):
     points: List[Point]
 
 
+class Question(NamedTuple):
+    """A question that is asked again and again, its answer, and the name of the point whose run shows it."""
+
+    asked: str
+    answer: str
+    point: str
+
+
+def questions(folder: Path = FOLDER) -> List[Question]:
+    """The questions, in order: blocks of a line that asks, lines that answer, and a line with the point. Raises BadPoint if one isn't so."""
+    path = folder / "points" / "QUESTIONS.txt"
+    return [_question_of(path, block) for block in path.read_text(encoding="utf-8").strip().split("\n\n")]
+
+
+def _question_of(path: Path, block: str) -> Question:
+    """The question of a block. Raises BadPoint if it isn't in its form."""
+    asked, *answer, point = block.split("\n")
+    if not asked.endswith("?") or not answer or not point.startswith("- "):
+        raise BadPoint(path, f"{asked!r}: a line that asks, lines that answer, and a line `- SUBJECT/POINT` are needed")
+    return Question(asked, " ".join(answer), point[2:])
+
+
 def subjects(folder: Path = FOLDER) -> List[Subject]:
     """The subjects, in order. Raises BadPoint if a folder isn't listed, or a listed one isn't there."""
     points = folder / "points"
