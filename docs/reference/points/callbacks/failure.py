@@ -2,7 +2,7 @@
 
 `errback` fires a Deferred with a failure: an exception that is passed on as an object, in a `Failure`. Each callback that comes first is skipped. The first errback is called with the failure.
 
-Look at the lines `run`. Both pairs have their turn, but the first has no errback, so the failure stays as it is.
+Look at the one line `run`, which is that of the errback. The callback is skipped, and that is no line.
 """
 
 from twisted.internet.defer import Deferred

@@ -1,6 +1,6 @@
 """A body awaits another one by its Deferred.
 
-Call it, and `yield` what the call returns. To forget the `yield` starts the other body all the same, but nobody waits for it, and its errors are lost.
+Call it, and `yield` what the call returns. Without the `yield` the other body starts all the same, but nobody waits for it, and nobody sees its errors.
 
 Look at the two lines `await`: `page` awaits `session`, which awaits `answer`.
 """

@@ -2,7 +2,7 @@
 
 Here the errback comes first, when there is nothing to handle yet. The callback behind it raises, and no errback follows. Put the errback that is to catch everything last.
 
-Look at the first `run`: the errback's pair passes the value on. The failure comes later.
+Look at the one line `run`, which is that of the callback. The errback was skipped before that, on a value, and doesn't come again.
 """
 
 from twisted.internet.defer import Deferred
