@@ -1,6 +1,6 @@
 """The points of docs/reference: for each a small program, whose docstring says what it shows, and a script of the same run.
 
-A subject is a folder of `docs/reference/points`. Its page begins with the text of its `SUBJECT.md`, whose list at the end names its
+A subject is a folder of `docs/reference/points`. Its page begins with the text of its `SUBJECT.txt`, whose list at the end names its
 points in order. `SUBJECTS.txt` lists the subjects in order.
 """
 
@@ -97,13 +97,13 @@ def subjects(folder: Path = FOLDER) -> List[Subject]:
     """The subjects, in order. Raises BadPoint if a folder isn't listed, or a listed one isn't there."""
     points = folder / "points"
     listed = (points / "SUBJECTS.txt").read_text(encoding="utf-8").split()
-    _check_listed(points / "SUBJECTS.txt", listed, [path.parent.name for path in points.glob("*/SUBJECT.md")])
+    _check_listed(points / "SUBJECTS.txt", listed, [path.parent.name for path in points.glob("*/SUBJECT.txt")])
     return [subject_of(points / name) for name in listed]
 
 
 def subject_of(folder: Path) -> Subject:
     """The subject of a folder. Raises BadPoint if it isn't in its form."""
-    path = folder / "SUBJECT.md"
+    path = folder / "SUBJECT.txt"
     text = path.read_text(encoding="utf-8")
     listed: List[str] = _LISTED.findall(text)
     _check_listed(path, listed, [program.stem for program in folder.glob("*.py")])

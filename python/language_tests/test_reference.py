@@ -53,7 +53,7 @@ class OfASmallFolder(unittest.TestCase):
         self.addCleanup(folder.cleanup)
         self.folder = Path(folder.name) / "waits"
         self.folder.mkdir()
-        self.add("SUBJECT.md", "# Waits\n\nWho waits.\n\n- one\n")
+        self.add("SUBJECT.txt", "# Waits\n\nWho waits.\n\n- one\n")
         self.add("one.py", '"""It waits.\n\nIt does.\n\nLook at it.\n\nLeaves Twisted: a-b, c\n"""\n\nimport os\n')
 
     def add(self, name: str, text: str) -> Path:
@@ -86,7 +86,7 @@ class OfASmallFolder(unittest.TestCase):
             subject_of(self.folder)
 
     def test_a_point_listed_twice_is_named(self) -> None:
-        self.add("SUBJECT.md", "# Waits\n\n- one\n- one\n")
+        self.add("SUBJECT.txt", "# Waits\n\n- one\n- one\n")
         with self.assertRaisesRegex(BadPoint, "listed once"):
             subject_of(self.folder)
 

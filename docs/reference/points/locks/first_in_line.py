@@ -1,6 +1,6 @@
 """A released lock goes to the first in the line.
 
-`acquire` fires at once if the lock is free. Otherwise the Deferred waits, last in the line. `release` hands the lock over directly: it isn't free in between, so nobody can come first from outside.
+`acquire` fires at once if the lock is free. Otherwise the Deferred waits, last in the line. `release` hands the lock over directly. It isn't free in between, so nobody else can get it first.
 
 Look at `release`: the next waiter is fired before `release` returns.
 """

@@ -1,6 +1,6 @@
 """A delayed call can be cancelled until it runs.
 
-After that, `cancel` raises AlreadyCalled, and after a cancel AlreadyCancelled. Ask `call.active()` first if you don't know. AlreadyCalled is of calls, and AlreadyCalledError of Deferreds.
+After that, `cancel` raises AlreadyCalled, and after a cancel AlreadyCancelled. Ask `call.active()` first if you don't know. AlreadyCalled is for calls, and AlreadyCalledError for Deferreds.
 
 Look at `uncall`: the call never runs.
 """

@@ -1,6 +1,6 @@
 """An answer in time ends the time-out.
 
-The timer is taken back when the result comes to its place in the chain. Nothing is left in the reactor.
+The timer is cancelled when the result reaches its place in the chain. No delayed call is left behind.
 
 Look at the end of the run: time goes on to 8, and no `timeout` follows.
 """

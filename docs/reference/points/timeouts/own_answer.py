@@ -1,6 +1,6 @@
 """`onTimeoutCancel` makes something else of the time-out.
 
-It is called with what came of the cancel, and with the seconds. What it returns is the result in the place of TimeoutError, so it may be a value.
+It is called with the result of the cancel, and with the seconds. What it returns is the result in the place of TimeoutError, so it may be a value.
 
 Look at the first `set` behind `timeout`: there is no TimeoutError.
 """
