@@ -91,11 +91,22 @@ def point_parts(point: Point, runs: Runs) -> List[str]:
     script = point.script.read_text(encoding="utf-8") if point.script.is_file() else ""
     parts = [f"## {point.title}", *point.says, block("python", point.python)]
     parts += [f"As a [script]({place(point.script)}):", block("json", script), "The run:", block("", runs.journal)]
+    if point.twisted.is_file():
+        parts += ["Twisted prints this in the place of the last lines:", block("", other_lines(runs.journal, point.twisted.read_text(encoding="utf-8")))]
     if runs.orders:
         posts = point.orders.read_text(encoding="utf-8")
         parts += [f"With the threads as [callers]({place(point.orders)}):", block("json", posts)]
         parts += ["What `./deferreds --orders` prints:", block("", runs.orders)]
     return [*parts, *point.look, *(leaving(entry) for entry in point.leaves)]
+
+
+def other_lines(journal: str, twisted: str) -> str:
+    """The lines that Twisted prints, from the first one on that differs from ours."""
+    ours, theirs = journal.splitlines(), twisted.splitlines()
+    same = 0
+    while same < min(len(ours), len(theirs)) and ours[same] == theirs[same]:
+        same += 1
+    return "\n".join(theirs[same:])
 
 
 def block(language: str, text: str) -> str:

@@ -52,6 +52,11 @@ class Point(NamedTuple):
         return self.program.with_suffix(".orders.json")
 
     @property
+    def twisted(self) -> Path:
+        """What Twisted prints, where that differs by an entry of docs/TWISTED.md; it is there only then."""
+        return self.program.with_suffix(".twisted.journal")
+
+    @property
     def name(self) -> str:
         """The subject and the point, as messages name it."""
         return f"{self.program.parent.name}/{self.program.stem}"

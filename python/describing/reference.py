@@ -27,6 +27,8 @@ from .points import BadPoint, Point, subjects
 
 #: by this entry of docs/TWISTED.md the times of results are the script's own
 _OWN_TIMES = "results-at-their-times"
+#: how the recorder names an entry of docs/TWISTED.md that a run has reached
+_REACHED = re.compile(r"Twisted does here what docs/TWISTED\.md says of ([\w-]+)")
 #: a last line of a run: the name and the outcome
 _OUTCOME = re.compile(r"^#\d+ (\S+) (.+)$", re.MULTILINE)
 
@@ -59,10 +61,28 @@ def missing_outcome(journal: str, orders: str) -> Optional[str]:
     return None
 
 
+def problem_with_twisted(point: Point, recording: Recording, entries: List[str]) -> Optional[str]:
+    """Why a point doesn't hold in which Twisted does otherwise, by these entries of docs/TWISTED.md."""
+    unnamed = [entry for entry in entries if entry not in point.leaves]
+    if unnamed:
+        return f"its run reaches {unnamed[0]}, which its docstring doesn't name"
+    if not point.twisted.is_file():
+        return f"{point.twisted.name} isn't there; --write writes it"
+    if not point.script.is_file() or point.script.read_text(encoding="utf-8") != recording.script:
+        return f"{point.script.name} isn't the recorded script, as it has to be where Twisted prints otherwise"
+    different = first_difference(point.twisted.read_text(encoding="utf-8"), recording.journal)
+    return None if different is None else f"Twisted prints otherwise than {point.twisted.name} has it: {different}"
+
+
 def problem_of(point: Point, recording: Recording, runs: Runs) -> Optional[str]:
     """Why a point doesn't hold: its program can't be recorded, its script prints something else, or no order ends as the program."""
     if recording.status != 0 or not recording.script:
         return f"status {recording.status}: {recording.said.strip()}"
+    entries: List[str] = _REACHED.findall(recording.said)
+    if entries:
+        return problem_with_twisted(point, recording, entries)
+    if point.twisted.is_file():
+        return f"{point.twisted.name} is there, and Twisted does what the script does"
     missing = missing_outcome(recording.journal, runs.orders) if runs.orders else None
     if missing is not None:
         return f"the program ends with {missing}, and no order does"
@@ -74,12 +94,17 @@ def problem_of(point: Point, recording: Recording, runs: Runs) -> Optional[str]:
 
 
 def write_scripts(points: List[Point], recordings: Dict[str, Recording]) -> None:
-    """Writes the scripts of points that have none."""
+    """Writes the scripts of points that have none, and what Twisted prints, where that differs and isn't there."""
     for point in points:
         recording = recordings.get(point.name)
-        if recording is not None and recording.script and not point.script.is_file():
+        if recording is None or not recording.script:
+            continue
+        if not point.script.is_file():
             point.script.write_text(recording.script, encoding="utf-8")
             print(f"{point.script} is written")
+        if _REACHED.search(recording.said) and not point.twisted.is_file():
+            point.twisted.write_text(recording.journal, encoding="utf-8")
+            print(f"{point.twisted} is written")
 
 
 def problems_of(points: List[Point], recordings: Dict[str, Recording], runs: Dict[str, Runs]) -> List[str]:

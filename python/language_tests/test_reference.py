@@ -8,7 +8,7 @@ from pathlib import Path
 from typing import Any, Dict
 
 from describing.point_names import assigned, names, renamed, wanted_name
-from describing.point_pages import Runs, anchor, pages, point_parts
+from describing.point_pages import Runs, anchor, other_lines, pages, point_parts
 from describing.point_recordings import Recording, laid_out
 from describing.points import FOLDER, BadPoint, Point, point_of, subject_of, subjects
 from describing.reference import first_difference, missing_outcome, problem_of, stale, without_times
@@ -144,6 +144,26 @@ class OfRuns(unittest.TestCase):
     def test_a_program_that_isnt_recorded_is_a_problem(self) -> None:
         for recording in (Recording(65, "record: refused\n", "{}", "x\n"), Recording(0, "record: refused\n", "", "x\n")):
             self.assertRegex(str(problem_of(self.point(), recording, Runs("x\n", ""))), "record: refused$")
+
+    def test_an_entry_that_a_run_reaches_is_named_and_twisteds_lines_are_kept(self) -> None:
+        with tempfile.TemporaryDirectory() as folder:
+            program = Path(folder) / "b.py"
+            recording = Recording(0, "record: Twisted does here what docs/TWISTED.md says of a-b\n", "{}", "x\nz\n")
+            point, runs = self.point()._replace(program=program), Runs("x\ny\n", "")
+            self.assertRegex(str(problem_of(point, recording, runs)), "reaches a-b, which its docstring doesn't name")
+            point = point._replace(leaves=["a-b"])
+            self.assertRegex(str(problem_of(point, recording, runs)), "b.twisted.journal isn't there")
+            point.twisted.write_text("x\nz\n", encoding="utf-8")
+            point.script.write_text("{ }", encoding="utf-8")
+            self.assertRegex(str(problem_of(point, recording, runs)), "b.json isn't the recorded script")
+            point.script.write_text("{}", encoding="utf-8")
+            self.assertIsNone(problem_of(point, recording, runs))
+            self.assertRegex(str(problem_of(point, recording._replace(journal="x\n"), runs)), "line 2 is 'nothing', not 'z'")
+            self.assertRegex(str(problem_of(point, recording._replace(said="", journal="x\ny\n"), runs)), "does what the script does")
+
+    def test_the_page_has_twisteds_lines_from_the_first_that_differs(self) -> None:
+        self.assertEqual(other_lines("a\nb\nc\n", "a\nd\nc\n"), "d\nc")
+        self.assertEqual(other_lines("a\n", "a\nb\n"), "b")
 
     def test_times_of_jobs_are_the_scripts_own_only_where_an_entry_says_so(self) -> None:
         recording, runs = Recording(0, "", "{}", "later job 0 7\nadvance 7\n"), Runs("later job 0 2\nadvance 2\n", "")

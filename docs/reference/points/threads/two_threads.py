@@ -3,6 +3,8 @@
 Which thread comes first is chance. Here one answers, and the other cancels. The program makes the answer come first, but another run may end otherwise. A script names the threads as callers, and `--orders` runs it in every order that is possible.
 
 Look at the outcomes: in one order there is an answer, in the other it comes too late.
+
+Leaves Twisted: posts-at-drains
 """
 
 from threading import Thread
