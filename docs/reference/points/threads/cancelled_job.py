@@ -7,13 +7,21 @@ Look at `deliver`, which is followed by `swallow`.
 Leaves Twisted: results-at-their-times
 """
 
+from time import sleep
+
 from twisted.internet import reactor
 from twisted.internet.threads import deferToThreadPool
 from twisted.python.threadpool import ThreadPool
 
+
+def add(numbers):
+    sleep(0.01)
+    return sum(numbers)
+
+
 pool = ThreadPool(0, 1)
 pool.start()
-total = deferToThreadPool(reactor, pool, sum, [1, 2, 3])
+total = deferToThreadPool(reactor, pool, add, [1, 2, 3])
 total.addErrback(lambda failure: failure.type.__name__)
 total.cancel()
 pool.stop()

@@ -7,13 +7,21 @@ Look at `job` and `deliver`. When the result comes depends on the work; a script
 Leaves Twisted: results-at-their-times
 """
 
+from time import sleep
+
 from twisted.internet import reactor
 from twisted.internet.threads import deferToThreadPool
 from twisted.python.threadpool import ThreadPool
 
+
+def add(numbers):
+    sleep(0.01)
+    return sum(numbers)
+
+
 pool = ThreadPool(0, 1)
 pool.start()
-total = deferToThreadPool(reactor, pool, sum, [1, 2, 3])
+total = deferToThreadPool(reactor, pool, add, [1, 2, 3])
 total.addCallback(print)
 print("the program goes on")
 pool.stop()  # (which waits for the job)

@@ -7,12 +7,15 @@ Look at `fire`, which is a `fail`.
 Leaves Twisted: results-at-their-times
 """
 
+from time import sleep
+
 from twisted.internet import reactor
 from twisted.internet.threads import deferToThreadPool
 from twisted.python.threadpool import ThreadPool
 
 
 def read():
+    sleep(0.01)
     raise OSError("no such file")
 
 
