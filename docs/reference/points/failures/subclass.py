@@ -1,6 +1,6 @@
 """`trap` also takes subclasses.
 
-LookupError traps a KeyError, as `except LookupError` does. To trap `Exception` takes everything, also CancelledError and your own bugs.
+LookupError traps a KeyError, as `except LookupError` does. Trapping `Exception` takes everything, also CancelledError and your own bugs.
 
 Look at the outcome: the KeyError was trapped by its parent.
 """
