@@ -97,7 +97,7 @@ def point_parts(point: Point, runs: Runs) -> List[str]:
         posts = point.orders.read_text(encoding="utf-8")
         parts += [f"With the threads as [callers]({place(point.orders)}):", block("json", posts)]
         parts += ["What `./deferreds --orders` prints:", block("", runs.orders)]
-    return [*parts, *point.look, *(leaving(entry) for entry in point.leaves)]
+    return [*parts, *point.look, *(leaving(entry, point.twisted.is_file()) for entry in point.leaves)]
 
 
 def other_lines(journal: str, twisted: str) -> str:
@@ -119,9 +119,10 @@ def place(path: Path) -> str:
     return path.relative_to(FOLDER).as_posix()
 
 
-def leaving(entry: str) -> str:
-    """The paragraph that names an entry of docs/TWISTED.md."""
-    return f"Here this leaves Twisted: [`{entry}`](../TWISTED.md#where-this-leaves-twisted)."
+def leaving(entry: str, differs: bool) -> str:
+    """The paragraph that names an entry of docs/TWISTED.md, by whether Twisted prints other lines for this run."""
+    link = f"[`{entry}`](../TWISTED.md#where-this-leaves-twisted)"
+    return f"Here this leaves Twisted: {link}." if differs else f"Twisted does the same in this run; {link} says where it doesn't."
 
 
 def anchor(title: str) -> str:

@@ -61,11 +61,8 @@ def missing_outcome(journal: str, orders: str) -> Optional[str]:
     return None
 
 
-def problem_with_twisted(point: Point, recording: Recording, entries: List[str]) -> Optional[str]:
-    """Why a point doesn't hold in which Twisted does otherwise, by these entries of docs/TWISTED.md."""
-    unnamed = [entry for entry in entries if entry not in point.leaves]
-    if unnamed:
-        return f"its run reaches {unnamed[0]}, which its docstring doesn't name"
+def problem_with_twisted(point: Point, recording: Recording) -> Optional[str]:
+    """Why a point doesn't hold in which Twisted prints otherwise, by an entry of docs/TWISTED.md."""
     if not point.twisted.is_file():
         return f"{point.twisted.name} isn't there; --write writes it"
     if not point.script.is_file() or point.script.read_text(encoding="utf-8") != recording.script:
@@ -79,8 +76,11 @@ def problem_of(point: Point, recording: Recording, runs: Runs) -> Optional[str]:
     if recording.status != 0 or not recording.script:
         return f"status {recording.status}: {recording.said.strip()}"
     entries: List[str] = _REACHED.findall(recording.said)
-    if entries:
-        return problem_with_twisted(point, recording, entries)
+    unnamed = [entry for entry in entries if entry not in point.leaves]
+    if unnamed:
+        return f"its run reaches {unnamed[0]}, which its docstring doesn't name"
+    if entries and recording.journal != runs.journal:
+        return problem_with_twisted(point, recording)
     if point.twisted.is_file():
         return f"{point.twisted.name} is there, and Twisted does what the script does"
     missing = missing_outcome(recording.journal, runs.orders) if runs.orders else None
@@ -94,15 +94,21 @@ def problem_of(point: Point, recording: Recording, runs: Runs) -> Optional[str]:
 
 
 def write_scripts(points: List[Point], recordings: Dict[str, Recording]) -> None:
-    """Writes the scripts of points that have none, and what Twisted prints, where that differs and isn't there."""
+    """Writes the scripts of points that have none."""
     for point in points:
         recording = recordings.get(point.name)
-        if recording is None or not recording.script:
-            continue
-        if not point.script.is_file():
+        if recording is not None and recording.script and not point.script.is_file():
             point.script.write_text(recording.script, encoding="utf-8")
             print(f"{point.script} is written")
-        if _REACHED.search(recording.said) and not point.twisted.is_file():
+
+
+def write_twisted(points: List[Point], recordings: Dict[str, Recording], runs: Dict[str, Runs]) -> None:
+    """Writes what Twisted prints, where that differs by an entry of docs/TWISTED.md, and isn't there."""
+    for point in points:
+        recording = recordings.get(point.name)
+        if recording is None or point.twisted.is_file() or not _REACHED.search(recording.said):
+            continue
+        if recording.journal != runs[point.name].journal:
             point.twisted.write_text(recording.journal, encoding="utf-8")
             print(f"{point.twisted} is written")
 
@@ -143,6 +149,8 @@ def check(program: Path, asked: List[str], writes: bool) -> int:
     if writes:
         write_scripts(chosen, recordings)
     runs = run_all(program, points)
+    if writes:
+        write_twisted(chosen, recordings, runs)
     problems = problems_of(chosen, recordings, runs) + stale(pages(listed, runs), writes)
     for problem in problems:
         print(problem)

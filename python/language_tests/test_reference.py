@@ -152,6 +152,7 @@ class OfRuns(unittest.TestCase):
             point, runs = self.point()._replace(program=program), Runs("x\ny\n", "")
             self.assertRegex(str(problem_of(point, recording, runs)), "reaches a-b, which its docstring doesn't name")
             point = point._replace(leaves=["a-b"])
+            self.assertIsNone(problem_of(point, recording, Runs(recording.journal, "")))
             self.assertRegex(str(problem_of(point, recording, runs)), "b.twisted.journal isn't there")
             point.twisted.write_text("x\nz\n", encoding="utf-8")
             point.script.write_text("{ }", encoding="utf-8")

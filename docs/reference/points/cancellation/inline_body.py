@@ -3,6 +3,8 @@
 The CancelledError is raised at the `yield`, where the body may catch it, tidy up and return. What it returns is the result. A body that awaits something else after that goes on, and has to be cancelled again.
 
 Look at `cancel` twice: the body's own, and then that of `answer`.
+
+Leaves Twisted: cancelled-inline
 """
 
 from twisted.internet.defer import CancelledError, Deferred, inlineCallbacks
