@@ -80,6 +80,8 @@ STAGES = [
         [_PYTHON, "checks/rows.py"], [_PYTHON, "checks/batches.py"], [_PYTHON, "checks/orders.py", "--random", "30"],
     ]),
     Stage("outputs", "each output that a page shows is what is printed", [[_PYTHON, "checks/documented.py"]]),
+    Stage("reference", "each point of docs/reference, by its program on real Twisted and its script; and the pages",
+          [["python/make_reference"]]),
     Stage("language", "the tables of pages, and the schema of scripts, are those of the language",
           [unittests("python/language_tests", "-t", "python")], variables={"EACH": "4"}),
     Stage("json", "runs as JSON agree with their journals, and with rows worked out by hand",

@@ -124,9 +124,9 @@ class InOrdersTest(unittest.TestCase):
         one, other = (Recording({".json": json.dumps(root), ".places.json": places}, {}) for root in (failing, passing))
         with TemporaryDirectory() as room:
             path = Path(room, "x.orders.json")
-            made = script_of(keys, Ends(one, is_late), other, path, "x.orders.json")
+            made = script_of(keys, Ends(one, is_late), other, path)
             self.assertFalse(path.exists())
-        return made.said if made is not None else ""
+        return made.said("x.orders.json") if made is not None else ""
 
     def crossed(self, first: int, second: int) -> Dict[str, Json]:
         """Two bodies that take two locks in different orders, with a job between; how long these jobs take."""

@@ -17,6 +17,18 @@ from .shaken_of import ShakenCase
 from .test_shaken_programs import SHAKEN, TRIES, WRONG
 
 
+#: how a program fails in some of its runs, which are counted in a file, whether it is shaken or not
+_CHANCE = """
+from twisted.internet import reactor, threads
+threads.deferToThread(int).addBoth(lambda _: reactor.stop())
+reactor.run()
+with open("runs", "a+") as file:
+    file.write(".")
+    file.seek(0)
+    raise SystemExit(len(file.read()) % 2 == 0)
+"""
+
+
 class SearchTest(ShakenCase):
     """A search for a run of a program."""
 
@@ -72,6 +84,17 @@ class SearchTest(ShakenCase):
         self.assert_goes_together("waiting")
         self.assertTrue(self.shaken_facts("waiting")["fast"])
 
+    def test_chance_is_called_no_cause_and_what_is_kept_is_shown(self) -> None:
+        (self.folder / "chance.py").write_text(_CHANCE, encoding="utf-8")
+        ended = self.record("--shake", "60", "--shaken", "start", "chance.py")
+        self.assertEqual(ended.status, 1, ended.said)
+        chance = "what it needs can't be told: with the perturbation it fails in [23] of 5 runs, and with none in [23] of 5; the machine may be busy"
+        self.assertRegex(ended.said, f"record: ({chance}|it fails with no perturbation, too: the machine is busy enough)\n")
+        self.assertNotIn(" needed", ended.said)
+        self.assertIn("record: chance.html shows the run that fails, and chance.recording lists its files\n", ended.said)
+        self.assertIn("record: chance.compared.html shows it beside a run that passes\n", ended.said)
+        self.assertIn("chance.compared.html", self.facts("chance")["files"])
+
     def test_a_mended_program_passes(self) -> None:
         ended = self.shake("--shake", "4", "mended/timeout_beats.py")
         self.assertEqual((ended.status, self.files()), (0, []), ended.said)
@@ -117,6 +140,13 @@ class SearchTest(ShakenCase):
         self.assertEqual(wrong.status, 2)
         self.assertIn("plain run 1 of 3 fails, which isn't shaken: `false` has status 1\n", wrong.said)
         self.assertIn("nothing is shaken, since no plain run passes\n", wrong.said)
+
+    def test_a_program_that_serves_for_ever_is_told_to_end(self) -> None:
+        (self.folder / "serves.py").write_text("from twisted.internet import reactor\nreactor.run()\n", encoding="utf-8")
+        ended = self.record("--shake", "2", "--within", "0.5", "serves.py")
+        self.assertEqual((ended.status, self.files()), (2, ["serves.py"]), ended.said)
+        self.assertIn("plain run 3 of 3 fails, which isn't shaken: it takes longer than 0.5 s; --within S gives it longer\n", ended.said)
+        self.assertIn("no plain run passes; a program that serves for ever needs an end, as a timer that stops the reactor\n", ended.said)
 
     def test_what_meets_nothing_is_given_up(self) -> None:
         (self.folder / "nothing.py").write_text("print(1)\n", encoding="utf-8")

@@ -84,6 +84,17 @@ class ShakenTestsTest(ShakenCase):
             self.assertNotEqual(refused.returncode, 0)
             self.assertIn(said, refused.stderr)
 
+    def test_trial_shakes_a_test_again_by_the_words_that_a_search_says(self) -> None:
+        shutil.copy(SHAKEN / "test_deposits.py", self.folder)
+        rows = [
+            (["--shake", "2", "--seed", "7", "--only", "start nowhere.py:1#1 1", "--only", "start nowhere.py:2#1 1"], 0, "they met nothing that is shaken\n"),
+            (["--shake", "2", "--within", "0.001", "--no-cut"], 2, "it takes longer than 0.001 s"),
+            *[([*words], 1, f"{words[0]} is for --shake") for words in (["--seed", "7"], ["--only", "a"], ["--within", "9"], ["--fast"], ["--no-cut"])],
+        ]
+        for words, status, said in rows:
+            ran = run(["-m", "deferreds.twisted", "trial", *words, "test_deposits.ConnectionTest"], self.folder, environment(), seconds=SECONDS)
+            self.assertEqual((ran.returncode, said in ran.stdout + ran.stderr), (status, True), (words, ran.stdout, ran.stderr))
+
     @unittest.skipUnless(_HAS_PYTEST, "pytest isn't here")
     def test_pytest_shakes_each_test_that_it_finds(self) -> None:
         shutil.copy(SHAKEN / "test_deposits.py", self.folder)

@@ -4,6 +4,7 @@ from __future__ import annotations
 
 import gc
 import os
+import random
 import re
 import signal
 import subprocess
@@ -12,7 +13,7 @@ import threading
 import time
 import unittest
 from collections import Counter
-from typing import Callable, Dict, List, Optional, Sequence, Tuple
+from typing import Callable, Dict, FrozenSet, List, Optional, Sequence, Tuple
 
 from deferreds.twisted.shaking.beside import Recording, page_beside
 from deferreds.twisted.shaking.choices import KINDS, Choices, Settings
@@ -328,7 +329,7 @@ class CuttingTest(unittest.TestCase):
         keys = [f"post a {number}" for number in range(40)]
         for needed in ([keys[17]], [keys[3], keys[30]], [keys[0], keys[1], keys[39]]):
             cutting = Cutting(lambda some: set(needed) <= set(some), 1000)
-            self.assertEqual(sorted(cutting.cut(keys).keys), sorted(needed))
+            self.assertEqual((sorted(cutting.cut(keys).keys), cutting.runs < 60), (sorted(needed), True), cutting.runs)
 
     def test_a_set_that_fails_once_in_three_is_not_enough(self) -> None:
         turns = {"alone": 0}
@@ -342,11 +343,53 @@ class CuttingTest(unittest.TestCase):
         self.assertEqual(sorted(Cutting(fails, 1000).cut(["a", "b", "c", "d"]).keys), ["a", "b"])
 
     def test_a_failure_that_needs_nothing_is_seen(self) -> None:
-        self.assertEqual(Cutting(lambda keys: True, 100).cut(["a", "b"]).keys, [])
+        needed = Cutting(lambda keys: True, 100).cut(["a", "b"])
+        self.assertEqual((list(needed.keys), needed.needs_nothing, needed.is_known), ([], True, False))
+
+    def test_on_a_busy_machine_chance_is_no_cause(self) -> None:
+        keys = [str(number) for number in range(50)]
+        for is_busy in (True, False):
+            said = [Cutting(self.failing_by_chance(seed, 0.3), 120, is_busy).cut(keys).is_known for seed in range(200)]
+            self.assertLess(sum(said), 10, is_busy)
+
+    def test_on_a_busy_machine_what_is_needed_is_found_too(self) -> None:
+        keys = [str(number) for number in range(50)]
+        found = [Cutting(self.failing_by_chance(seed, 0.2, frozenset({"17"})), 120, True).cut(keys) for seed in range(200)]
+        known = [list(needed.keys) for needed in found if needed.is_known]
+        self.assertGreater(len(known), 150)
+        self.assertGreater(known.count(["17"]), 0.9 * len(known))
+
+    def test_a_failure_that_comes_seldom_with_all_is_cut_down_if_none_comes_without(self) -> None:
+        turns = {"with": 0}
+
+        def fails(keys: Sequence[str]) -> bool:
+            turns["with"] += "b" in keys
+            return "b" in keys and turns["with"] % 3 == 0
+
+        needed = Cutting(fails, 100).cut(["a", "b", "c", "d"])
+        self.assertEqual((list(needed.keys), needed.none, needed.again, needed.is_known), (["b"], 0, 1, True))
+        turns["with"] = 0
+        self.assertFalse(Cutting(fails, 100, True).cut(["a", "b", "c", "d"]).is_known)
+
+    def failing_by_chance(self, seed: int, chance: float, needed: FrozenSet[str] = frozenset()) -> Callable[[Sequence[str]], bool]:
+        """What fails in this share of its runs, and in each of those that have what is needed."""
+        drawn = random.Random(seed)
+        return lambda keys: drawn.random() < chance or bool(needed) and needed <= set(keys)
 
     def test_a_failure_that_does_not_come_again_is_seen(self) -> None:
         needed = Cutting(lambda keys: False, 100).cut(["a", "b"])
         self.assertEqual((needed.again, list(needed.keys)), (0, ["a", "b"]))
+
+    def test_what_a_run_that_passes_by_chance_makes_look_needed_is_left_out(self) -> None:
+        turns = {"first": 0}
+
+        def fails(keys: Sequence[str]) -> bool:
+            if list(keys) == ["a", "b"]:
+                turns["first"] += 1
+                return turns["first"] > 2
+            return "a" in keys
+
+        self.assertEqual(list(Cutting(fails, 1000).cut(["a", "b", "c", "d"]).keys), ["a"])
 
     def test_no_more_runs_are_made_than_allowed(self) -> None:
         keys = [str(number) for number in range(200)]

@@ -13,7 +13,8 @@ from unittest import mock
 
 from deferreds.view import texts
 from deferreds.view.page import MOST_PLAIN, NARROW, written_page
-from deferreds.view.run import Run
+from deferreds.view.run import Run, run_of_journal
+from deferreds.view.scripts import Script
 from deferreds.view.stories import Does
 from deferreds.view.texts import Html, shortened, visible
 
@@ -369,6 +370,23 @@ class Focus(InBrowser):
         self.browser.press("Escape")
         self.assertEqual(self.asked("document.querySelectorAll('.row.here').length"), 0)
 
+    def test_keys_reach_the_first_line_below_the_head_of_an_event(self) -> None:
+        events = [["deferred", "d"], ["callback", "d", 1]]
+        self.show(run_of_journal("new #0 d\nadd #0\nfire #0 ok 1\nrun #0\nset #0 ok 1\n", "t", Script({"events": events}), False, [0, 2]))
+        self.assertEqual(self.asked("document.querySelector('#chart .row').className"), "row ev")
+        self.asked("document.getElementById('chart').focus()")
+        for key, row in (("End", 5), ("Home", 1), ("End", 5), ("PageUp", 1), ("PageDown", 5)):
+            self.browser.press(key)
+            self.assertEqual(self.asked("document.querySelector('.row.here').id"), f"r{row}", key)
+
+    def test_n_and_p_go_on_from_the_row_that_is_chosen_however_high_it_stands(self) -> None:
+        self.show(samples.recorded(), "#f=0&row=1")
+        rows = [int(name[1:]) for name in self._named(0)]
+        for key, row in (("n", rows[1]), ("n", rows[2]), ("p", rows[1]), ("p", rows[0]), ("p", rows[0])):
+            self.browser.press(key)
+            self.browser.settle()
+            self.assertEqual(self.asked("document.querySelector('.row.here').id"), f"r{row}")
+
     def test_rows_are_rows_for_who_hears_them(self) -> None:
         run = samples.recorded()
         self.show_all(run)
@@ -442,6 +460,12 @@ class Find(InBrowser):
         row = [row.place for row in run.fold.rows if "new #" in row.entry.line][-1]
         self.assertEqual(self.asked("document.querySelector('.row.here').id"), f"r{row + 1}")
         self.assertTrue(0 < self.asked("document.querySelector('.row.here').getBoundingClientRect().top") < 1000)
+
+    def test_an_address_says_which_of_them_it_leads_to(self) -> None:
+        rows = [row.place + 1 for row in samples.recorded().fold.rows if "new #" in row.entry.line]
+        for row, said in ((rows[2], f"3 of {len(rows)}"), (rows[0] + 1, f"{len(rows)} lines")):
+            self.show(samples.recorded(), f"#row={row}&find=new+%23")
+            self.assertEqual(self.asked("document.getElementById('found').textContent"), said)
 
     def test_keys_go_from_one_to_the_next(self) -> None:
         run = samples.recorded()

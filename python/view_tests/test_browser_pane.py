@@ -7,6 +7,7 @@ import unittest
 
 from deferreds.view.places import Place, Places
 from deferreds.view.run import run_of_journal
+from deferreds.view.terminal import Terminal
 
 from . import samples
 from .test_browser import InBrowser
@@ -101,6 +102,17 @@ class Pane(InBrowser):
         self.browser.click("#whole button")
         self.assertRegex(self.asked(f"{_PANE}.querySelector('.place > .facts').textContent"), "^(copied|can't be copied)$")
         self.assertEqual(self.asked("document.querySelectorAll('textarea').length"), 0)
+
+    def test_a_row_of_the_report_is_copied_as_a_terminal_shows_it(self) -> None:
+        run = run_of_service("ledger")
+        self.show(run)
+        self.asked("document.addEventListener('copy', () => { window.got = document.activeElement.value; })")
+        for number, finding in enumerate(run.report.findings):
+            self.browser.click(f"[data-copy='{number}'] button")
+            self.assertEqual(self.asked("window.got"), Terminal(run, False).copied(finding))
+            self.assertRegex(self.asked(f"document.querySelector(\"[data-copy='{number}']\").innerText"), "(copied|can't be copied)$")
+        self.assertEqual(self.asked("document.querySelectorAll('[data-copy]').length"), len(run.report.findings))
+        self.assertEqual(self.trouble(), [])
 
     def test_hostile_sources_are_texts(self) -> None:
         run = run_of_journal("new #0 d\n", "t")

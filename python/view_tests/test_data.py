@@ -114,7 +114,7 @@ class Deferreds(unittest.TestCase):
         self.assertEqual(
             outer,
             {"number": 0, "names": "outer", "end": 0, "value": "null", "waits": -1, "made": 0, "last": 13, "fired": 10, "by": ["after ", ["call answer"], ", ", -10],
-             "spent": [7, 0, 0, 1], "spans": [0, 0, 10, 4, 11, 8, 12, 4, 13, 2], "steps": "m0 f10 r11-12"},
+             "spent": [7, 0, 0, 1, 0], "spans": [0, 0, 10, 4, 11, 8, 12, 4, 13, 2], "steps": "m0 f10 r11-12"},
         )  # fmt: skip
         self.assertEqual((inner["end"], inner["value"], inner["spans"]), (1, 'ValueError "no"', [3, 0, 5, 2, 6, 8, 7, 6, 13, 4]))
 

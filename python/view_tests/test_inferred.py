@@ -8,6 +8,7 @@ from typing import Dict, List, Optional, Sequence
 from deferreds.view.after_cancel import went_on
 from deferreds.view.bodies import Bodies
 from deferreds.view.findings import Kind, Severity
+from deferreds.view.not_returned import not_returned
 from deferreds.view.overtaken import overtaken
 from deferreds.view.places import Place, Places
 from deferreds.view.run import Run, run_of_journal
@@ -92,7 +93,7 @@ class TokensThatAreHeld(unittest.TestCase):
         self.assertEqual((found.kind, found.severity, found.row), (Kind.HELD, Severity.BAD, 3))
         self.assertIn(
             'held #0·body took a token of l at a.py:7 and never released it (line 4) | its body failed with ValueError "no" in line 12 | '
-            "1 of 1 token of l is held: given 1 time, released 0 times",
+            "1 of 1 token of l is held: taken 1 time, released 0 times",
             report_of(run),
         )
 
@@ -257,6 +258,82 @@ class Overtaken(unittest.TestCase):
         run = run_of_journal(journal("new #0 a", "new #1 a", "fire #1 ok 1", "fire #0 ok 1"), "test", None, False, [0, 1, 2, 3])
         run.places = Places({"a": Place("/srv/a.py", 3)}, {})
         self.assertTrue(run.report.is_clean)
+
+
+def _fetching(number: int, value: str, *rest: str) -> List[str]:
+    """The journal of a body that gets a value of the queue `q`, awaits an answer, does this, and ends."""
+    body, got, answer = 10 * number, 10 * number + 1, 10 * number + 2
+    lines = [f"new #{body} body", f"new #{got} g{number}", f"get q #{got}", f"fire #{got} ok {value}", f"new #{answer} d", f"await #{body} #{answer}"]
+    return [*lines, f"add #{answer}", f"fire #{answer} ok 1", f"run #{answer}", *rest, f"fire #{body} ok null", f"set #{answer} ok null"]
+
+
+class PoolsThatRunDry(unittest.TestCase):
+    """Values that weren't put back."""
+
+    back = ["queue q none none", 'put q "c"', *_fetching(0, '"c"', 'put q "c"'), *_fetching(1, '"c"', 'put q "c"')]
+    waiter = ["new #90 waiter", "get q #90"]
+
+    def kinds(self, *lines: str) -> List[str]:
+        return [finding.kind.value for finding in run_of(lines).report.findings]
+
+    def test_the_body_that_kept_one_is_named_if_others_put_theirs_back(self) -> None:
+        run = run_of([*self.back, *_fetching(2, '"c"'), *self.waiter], {"g2": 7})
+        found = run.report.findings
+        self.assertEqual([(one.kind, one.severity) for one in found], [(Kind.KEPT, Severity.LIKELY), (Kind.GETTER, Severity.LEFT)])
+        self.assertIn('kept #20·body got "c" from q at a.py:7 and didn\'t put it back (line 30) | its body returned null in line 36', report_of(run)[0])
+        self.assertIn("a guess, since 2 other values that were got were put back: as by #0·body", report_of(run)[0])
+
+    def test_not_if_nobody_waits_or_another_puts_it_back(self) -> None:
+        self.assertEqual(self.kinds(*self.back, *_fetching(2, '"c"')), [])
+        self.assertEqual(self.kinds(*self.back, *_fetching(2, '"c"'), 'put q "c"', *_fetching(3, '"c"', 'put q "c"'), *self.waiter[:1]), ["unfired"])
+
+    def test_not_while_the_body_goes_on(self) -> None:
+        self.assertEqual(self.kinds(*self.back, *_fetching(2, '"c"')[:7], *self.waiter), ["unfired", "getter"])
+
+    def test_a_queue_of_work_is_no_pool(self) -> None:
+        work = [line for number in range(3) for line in (f'put q "w{number}"', *_fetching(number, f'"w{number}"'))]
+        self.assertEqual(self.kinds("queue q none none", *work, *self.waiter), ["getter"])
+        again = [*work, 'put q "w3"', *_fetching(3, '"w3"', 'put q "w3"'), *_fetching(4, '"w3"', 'put q "w3"'), *_fetching(5, '"w3"')]
+        self.assertEqual(self.kinds("queue q none none", *again, *self.waiter), ["getter"])
+
+    def test_what_rests_in_a_pool_has_no_note(self) -> None:
+        self.assertEqual(self.kinds(*self.back), [])
+        self.assertEqual(self.kinds("queue q none none", 'put q "w"'), ["stored"])
+
+
+class NotReturned(unittest.TestCase):
+    """A Deferred that a callback made and didn't return."""
+
+    made = ["new #0 d", "add #0", "add #0", "fire #0 ok 1", "run #0", "new #1 work", "set #0 ok null", "run #0", "set #0 ok 2", "advance 3", "fire #1 ok 7"]
+
+    def numbers(self, lines: Sequence[str]) -> List[int]:
+        fold = run_of(lines).fold
+        return [one.record.number for one in not_returned(fold, Bodies(fold))]
+
+    def test_it_is_named_with_the_callback_that_ran_too_soon(self) -> None:
+        self.assertEqual(self.numbers(self.made), [1])
+        run = run_of(self.made, {"work": 5})
+        self.assertEqual([(one.kind, one.severity, one.row) for one in run.report.findings], [(Kind.NOT_RETURNED, Severity.LIKELY, 5)])
+        self.assertIn("the next one ran in line 8, 3 ticks before that was fired | nobody got what it was fired with: ok 7 | a guess", report_of(run)[0])
+        self.assertIn("and that is unfired | nobody waits for it", report_of(run_of(self.made[:-1], {"work": 5}))[0])
+
+    def test_not_if_it_was_returned_or_fired_by_then(self) -> None:
+        returned = [*self.made[:6], "wait #0 #1", "fire #1 ok 7", "hand #0 #1 ok 7", "run #0", "set #0 ok 2"]
+        self.assertEqual(self.numbers(returned), [])
+        self.assertEqual(self.numbers([*self.made[:6], "fire #1 ok 7", *self.made[6:-1]]), [])
+
+    def test_not_if_the_program_adds_a_callback_or_waits_for_it_elsewhere(self) -> None:
+        self.assertEqual(self.numbers([*self.made[:6], "add #1", *self.made[6:]]), [])
+        self.assertEqual(self.numbers([*self.made[:-1], "new #2 body", "await #2 #1", "add #1"]), [])
+        self.assertEqual(self.numbers([*self.made[:6], "add #1", "later call c 4", *self.made[6:]]), [1])
+
+    def test_not_if_no_callback_came_after_it_or_that_got_a_value(self) -> None:
+        self.assertEqual(self.numbers([*self.made[:7], *self.made[9:]]), [])
+        self.assertEqual(self.numbers([*self.made[:6], "set #0 ok 1", *self.made[7:]]), [])
+
+    def test_not_what_an_inline_body_makes(self) -> None:
+        body = ["new #0 d", "new #2 body", "await #2 #0", "add #0", "fire #0 ok 1", "run #0", "new #1 work", "new #3 e", "await #2 #3", "add #3", "set #0 ok null", "run #0"]
+        self.assertEqual(self.numbers([*body, "set #0 ok null"]), [])
 
 
 class AfterACancel(unittest.TestCase):

@@ -28,7 +28,7 @@ _ELEMENTS = frozenset(
     "html head meta title style body main aside nav h1 h2 p span a table tr td b bdi div details summary script section pre code noscript".split()
 )
 _ATTRIBUTES = frozenset(
-    "lang charset name content http-equiv class id href data-f title hidden role type target aria-label".split()
+    "lang charset name content http-equiv class id href data-copy data-f title hidden role type target aria-label".split()
 )
 _NUMBERS = re.compile(r"[a-z-]*=?\d*")
 _DATA = re.compile(r"<script type=application/json id=data>(.*?)</script>", re.DOTALL)
@@ -92,7 +92,7 @@ def is_safe(page: str) -> bool:
     """Whether nothing is on the page but what this package writes round texts."""
     read = Read(page)
     names = set().union(
-        *(read.values.get(name, set()) for name in ("id", "href", "data-f", "data-d", "data-to"))
+        *(read.values.get(name, set()) for name in ("id", "href", "data-copy", "data-f", "data-d", "data-to"))
     )
     plain = all(_NUMBERS.fullmatch(part) for name in names for part in name.lstrip("#").split(" "))
     return (

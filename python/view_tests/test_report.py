@@ -138,7 +138,7 @@ class OfJournals(unittest.TestCase):
         self.assertEqual(
             of_journal(*lines),
             [
-                "token 1 of 1 token of l is held (line 3) | given 1 time, released 0 times | held for #0·a since line 3"
+                "token 1 of 1 token of l is held (line 3) | taken 1 time, released 0 times | held for #0·a since line 3"
                 " | #1·b waits for a token of l",
                 "getter 1 waits for a value of q, and nothing is put (line 7) | #2·c waits for a value of q",
             ],
@@ -401,7 +401,7 @@ class OfFacts(unittest.TestCase):
         self.assertEqual(
             found,
             [
-                "token 1 of 2 tokens of l is held (line 3) | given 1 time, released 0 times | held for #0·a since line 3 in event 0"
+                "token 1 of 2 tokens of l is held (line 3) | taken 1 time, released 0 times | held for #0·a since line 3 in event 0"
             ],
         )
 

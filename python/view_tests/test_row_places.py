@@ -77,11 +77,15 @@ class OfRows(unittest.TestCase):
         run.places = Places({}, {"/events/1": Place("a.py", 7)})
         self.assertEqual([run.row_places.of(row) for row in run.fold.rows], [None, Place("a.py", 7), None])
 
-    def test_what_twisted_does_by_itself_after_an_await_or_a_cancel_has_no_line_of_another_action(self) -> None:
+    def test_what_twisted_does_by_itself_after_a_cancel_has_the_line_of_that(self) -> None:
         rows = ["new #0 a", "new #1 b", "await #0 #1", "add #1", "cancel #0", "cancel #1", 'fire #1 fail CancelledError ""']
         events = [["addCallback", "b", {}], ["cancel", "a"], ["cancel", "b"], ["errback", "b", "ValueError", ""]]
         lines = _lines(rows, events, {}, {"/events/0": 3, "/events/1": 4, "/events/2": 5, "/events/3": 6})
-        self.assertEqual(lines, [None, None, None, None, 4, None, None])
+        self.assertEqual(lines, [None, None, None, None, 4, 4, 4])
+
+    def test_a_cancel_after_one_that_did_nothing_is_of_another_action(self) -> None:
+        rows = ["new #0 a", "fire #0 ok 1", "new #1 b", "cancel #0", "cancel #1", 'fire #1 fail CancelledError ""']
+        self.assertEqual(_lines(rows, [["cancel", "a"]], {}, {"/events/0": 4}), [None, None, None, 4, None, None])
 
     def test_a_release_that_runwith_may_have_done_has_none(self) -> None:
         rows = ["lock l", "new #0 t", "acquire l #0", 'fire #0 ok "l"', "release l"]

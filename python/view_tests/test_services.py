@@ -53,7 +53,7 @@ _CAUSES = {
     "payments": Cause(
         Kind.SWALLOWED,
         ['nobody got "receipt-13 card-6 312"', "13 were made there: 12 ok, 1 cancelled", "ask_33_13, fired with ok \"receipt-12 card-6 312\""],
-        {"wire.py:33": "defer.Deferred()", "wire.py:41": "answer.callback(", "payments.py:46": 'self.bank.ask("charge"', "payments.py:61": "charge("},
+        {"wire.py:33": "defer.Deferred()", "wire.py:41": "answer.callback(", "payments.py:46": 'self.bank.ask("charge"', "payments.py:47": "answer.addTimeout(", "payments.py:61": "charge("},
     ),
     "payments_small": Cause(
         Kind.ODD,
@@ -67,10 +67,14 @@ _CAUSES = {
     ),
     "stock_levels": Cause(
         Kind.OVERTAKEN,
-        ["the result of the job of #2·refresh_33 came after that of #6·refresh_33_2, which began later", "a guess"],
+        ["the result of the job of #2·refresh_33 came after that of #6·refresh_33_2, which began later", "ok 12 for #1·refresh_45 and line 39: ok 7 for #5·refresh_45_2", "a guess"],
         {"stock_levels.py:33": "threads.deferToThread(self.store.read, item)"},
     ),
-    "mailer": Cause(Kind.GETTER, ["1 waits for a value", "the inline body of #2·work_26"], {"mailer.py:35": "self.letters.get()"}),
+    "mailer": Cause(
+        Kind.GETTER,
+        ["1 waits for a value", "the inline body of #2·work_26", "#2·work_26, made at mailer.py:26, got 3 values of it", "#6·work_30, made at mailer.py:30, got 3"],
+        {"mailer.py:35": "self.letters.get()", "mailer.py:26": "self.work()", "mailer.py:30": "self.work()"},
+    ),
     "transfers": Cause(
         Kind.CIRCLE,
         ["each is held by a body that awaits the next", "#6·transfer_32 took lock_transfer_15", "#9·transfer_32_2 took lock_transfer_18"],
@@ -79,11 +83,23 @@ _CAUSES = {
     "feeds": Cause(
         Kind.WENT_ON,
         ["read_58_4", "went on after it was cancelled", 'failed with RemoteError "stocks"', "a guess"],
-        {"feeds.py:58": "reader.read(feed)", "feeds.py:43": "task.deferLater"},
+        {"feeds.py:58": "reader.read(feed)", "feeds.py:43": "task.deferLater", "feeds.py:61": 'reading["stocks"].cancel()'},
+    ),
+    "crawler": Cause(
+        Kind.KEPT,
+        ["fetch(path='/archive') (", 'got "<Client 1>" from queue_connect_38', "didn't put it back", "nor did fetch(path='/search')", "a guess"],
+        {"crawler.py:47": "yield self.idle.get()", "crawler.py:54": "self.idle.put(client)", "crawler.py:31": "defer.DeferredQueue()"},
+    ),
+    "uploads": Cause(
+        Kind.NOT_RETURNED,
+        ["a callback of #5·do_upload_39 made #6·save_45", "didn't return it", "fired with: ok 11", "3 others of this line", "a guess"],
+        {"uploads.py:45": "threads.deferToThread(self.disk.write", "uploads.py:40": "done.addCallback(self.save"},
     ),
 }
 
-_MENDED = ("ledger", "payments", "warehouse", "stock_levels", "mailer", "transfers")
+_MENDED = ("ledger", "payments", "warehouse", "stock_levels", "mailer", "transfers", "uploads")
+#: mended services in which late answers to what was cancelled are dropped
+_DROPPING = ("feeds", "crawler")
 
 
 def run_of_service(name: str) -> Run:
@@ -128,12 +144,13 @@ class Causes(unittest.TestCase):
                 self.assertIn('<span class="verdict clean">nothing is left unfired</span>', written_page(run))
 
     def test_a_late_answer_to_what_was_cancelled_on_purpose_is_only_a_note(self) -> None:
-        run = run_of_service("feeds_mended")
-        self.assertEqual([finding.kind for finding in run.report.findings], [Kind.SWALLOWED])
-        self.assertNotIn("made another there", _said(run, run.report.findings[0]))
+        for name in _DROPPING:
+            run = run_of_service(f"{name}_mended")
+            self.assertEqual({finding.kind for finding in run.report.findings}, {Kind.SWALLOWED})
+            self.assertNotIn("made another there", _said(run, run.report.findings[0]))
 
     def test_nothing_is_green_while_there_is_a_row(self) -> None:
-        for name in (*_CAUSES, "feeds_mended"):
+        for name in (*_CAUSES, *(f"{name}_mended" for name in _DROPPING)):
             self.assertNotIn('class="verdict clean"', written_page(run_of_service(name)), name)
 
     def test_other_programs_get_the_same_rows_as_json(self) -> None:

@@ -8,6 +8,7 @@ from typing import List
 from deferreds.view.branches import Tree, found
 from deferreds.view.run import Run, run_of_facts, run_of_journal
 from deferreds.view.facts import read_facts
+from deferreds.view.places import Places
 from deferreds.view.stories import MOST_BRANCHES, Does
 from deferreds.view.terminal import Terminal
 
@@ -63,8 +64,35 @@ class Trees(unittest.TestCase):
     def test_an_inline_body_goes_on_in_the_side_of_whom_it_awaits(self) -> None:
         lines = ["new #0 body", "new #1 x", "await #0 #1", "add #1", "advance 3", "fire #1 ok 1", "run #1", "fire #0 ok 1", "set #1 ok null"]
         run = of(lines)
-        self.assertEqual(signs(run, 0), ["1m0", "1w2#1*", "2m1", "2f5", "2r6", "3g7#0", "1f7#1"])
-        self.assertEqual(run.stories.of[0][1].end, 6)
+        self.assertEqual(signs(run, 0), ["1m0", "1n1#1", "1w2#1*", "2m1", "2f5", "2r6", "3g7#0", "1f7#1"])
+        self.assertEqual(run.stories.of[0][2].end, 6)
+
+    def test_a_body_has_what_it_did_before_it_awaited(self) -> None:
+        lines = ["lock l", "new #0 body", "new #1 t", "acquire l #1", 'fire #1 ok "l"', "note 1", "new #2 d", "await #0 #2", "add #2", "note 2"]
+        self.assertEqual(signs(of(lines), 0), ["1m1", "1n2#1*", "2m2", "2f4", "1o3#1", "1g4#1", "1o5", "1n6#2", "1w7#2*", "2m6"])
+
+    def test_one_that_awaits_what_is_fired_goes_on_at_once(self) -> None:
+        lines = ["new #0 body", "new #1 x", "fire #1 ok 1", "await #0 #1", "add #1", "run #1", "set #1 ok null", "new #2 y", "await #0 #2", "add #2"]
+        run = of(lines)
+        self.assertEqual([(step.row, step.end) for step in run.stories.of[0] if step.does is Does.WAITS], [(3, 5), (8, None)])
+        self.assertEqual([step.does for step in run.stories.of[1] if step.does is Does.AWAITED], [])
+
+    def test_what_is_unfired_has_those_who_await_it_and_its_pairs(self) -> None:
+        lines = ["new #0 body", "new #1 ask", "await #0 #1", "add #1", "new #2 d", "fire #2 ok 1", "run #2", "wait #2 #1"]
+        run = of(lines)
+        run.places = Places({}, {}, calls={"body": "get(key=3)"})
+        self.assertEqual(signs(run, 1), ["1m1", "1b2#0", "1b7#2"])
+        self.assertEqual(
+            list(Terminal(run, False).tree(1)),
+            [
+                "#1·ask unfired: unfired 0 ticks, waited 0 ticks, 0 callbacks ran, 1 pair waits",
+                "├ is made  (line 2)",
+                "├ is awaited by #0·body, called as get(key=3)  (line 3)",
+                "├ is awaited by #2·d  (line 8)",
+            ],
+        )
+        self.assertEqual(signs(run, 0)[-2:], ["1w2#1*", "2m1"])
+        self.assertTrue(next(iter(Terminal(run, False).tree(0))).startswith("#0·body, called as get(key=3), unfired: "))
 
     def test_firings_without_effect_are_steps_and_are_counted(self) -> None:
         run = of(["new #0 a", "cancel #0", 'fire #0 fail CancelledError ""', "swallow #0", "refuse #0", "refuse #0"])
@@ -107,7 +135,7 @@ class Trees(unittest.TestCase):
         for number in range(many):
             lines += [f"fire #{number} ok 1", f"run #{number}", f"wait #{number} #{(number + 1) % many}"]
         run = of(lines)
-        self.assertEqual(len(signs(run, 0)), 4 * many)
+        self.assertEqual(len(signs(run, 0)), 4 * many + 1)
         printed = list(Terminal(run, False).tree(0))
         self.assertEqual(len(printed), MOST_BRANCHES + 2)
         self.assertIn("at most", printed[-1])

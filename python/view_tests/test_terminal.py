@@ -56,6 +56,23 @@ class Shown(unittest.TestCase):
             ],
         )
 
+    def test_the_report_wraps_at_words_and_a_word_is_never_cut(self) -> None:
+        run = run_of_journal('new #0 a_name_longer_than_room\nfire #0 fail ValueError "one two  three four five"\n', "test")
+        report = list(Terminal(run, False, 33).report())
+        at = report.index("!! failure   #0·a_name_longer_than_room")
+        self.assertEqual(report[at + 1 :], [" " * 13 + line for line in ("ends with ValueError", '"one two  three four', 'five"  (line 2)')])
+        self.assertEqual(list(Terminal(run, False, 32).report()), list(Terminal(run, False).report()))
+
+    def test_a_row_alone_is_a_text_for_a_ticket(self) -> None:
+        run = run_of_journal('new #0 d\nadd #0\nlock l\nnew #1 t\nacquire l #1\nfire #1 ok "l"\nnew #2 w\nacquire l #2\n', "test")
+        self.assertEqual(
+            [Terminal(run, False).copied(finding) for finding in run.report.findings[1:]],
+            [
+                "test: unfired, line 1\nnobody fired #0·d\n  1 pair waits\n",
+                "test: token, line 5\n1 of 1 token of l is held\n  taken 1 time, released 0 times\n  held for #1·t since line 5\n  #2·w waits for a token of l\n",
+            ],
+        )
+
     def test_an_event_of_several_lines_has_a_head(self) -> None:
         journal = 'lock l\nnew #0 d\nacquire l #0\nfire #0 ok "l"\n'
         run = run_of_facts(

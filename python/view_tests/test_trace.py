@@ -22,6 +22,8 @@ Json = Dict[str, Any]
 _KEYS = {
     "M": {"ph", "pid", "tid", "name", "args"},
     "X": {"ph", "pid", "tid", "name", "cat", "ts", "dur", "args"},
+    "b": {"ph", "pid", "tid", "name", "cat", "ts", "id", "args"},
+    "e": {"ph", "pid", "tid", "name", "cat", "ts", "id"},
     "s": {"ph", "pid", "tid", "name", "cat", "ts", "id"},
     "f": {"ph", "pid", "tid", "name", "cat", "ts", "id", "bp"},
 }
@@ -42,6 +44,7 @@ def broken(text: str) -> Iterator[str]:
         yield f"tracks without a name: {used - named}"
     yield from _wrong_nesting(events)
     yield from _wrong_flows(events)
+    yield from _wrong_lengths(events)
 
 
 def _wrong_keys(event: Json) -> Iterator[str]:
@@ -102,6 +105,20 @@ def _wrong_flows(events: List[Json]) -> Iterator[str]:
         start = begun.pop(event["id"], None)
         if start is None or start["ts"] > event["ts"] or (start["cat"], start["name"]) != (event["cat"], event["name"]):
             yield f"ends what hasn't begun: {event}"
+    if begun:
+        yield f"begun, and not ended: {list(begun)}"
+
+
+def _wrong_lengths(events: List[Json]) -> Iterator[str]:
+    """An asynchronous slice begins once, and ends once, not before that."""
+    begun: Dict[Tuple[str, int], Json] = {}
+    for event in events:
+        if event["ph"] == "b" and begun.setdefault((event["cat"], event["id"]), event) is not event:
+            yield f"begins twice: {event}"
+        if event["ph"] == "e":
+            start = begun.pop((event["cat"], event["id"]), None)
+            if start is None or start["ts"] > event["ts"] or start["name"] != event["name"]:
+                yield f"ends what hasn't begun: {event}"
     if begun:
         yield f"begun, and not ended: {list(begun)}"
 
@@ -205,6 +222,18 @@ class OfARecording(unittest.TestCase):
         took = run.durations.of(run.fold.records[number]).unfired
         self.assertLess(abs(lost["dur"] - took), len(run.fold.rows))  # (a tick is a microsecond there)
         self.assertIn('"tick": "as it was in the run"', trace.text())
+
+    def test_a_line_of_the_program_has_a_track_of_how_long_its_deferreds_were_unfired(self) -> None:
+        run = run_of_service("warehouse")
+        site = run.inferred.sites.all[0]
+        number = site.odd[0]
+        events = [one for one in Trace(run).events() if one["ph"] in "be"]
+        made = [one for one in events if one["name"] == "warehouse.py:67 order, by ask at wire.py:33"]
+        self.assertEqual(sorted(one["id"] for one in made if one["ph"] == "b"), sorted(record.number for record in site.records))
+        begin, end = (one for one in made if one["id"] == number)
+        self.assertEqual(begin["args"], {"deferred": f"#{number} ask_33_32", "ended": "cancelled", "place": "/srv/shop/warehouse.py:67"})
+        took = run.durations.of(run.fold.records[number]).unfired
+        self.assertLess(abs(end["ts"] - begin["ts"] - took), len(run.fold.rows))  # (a tick is a microsecond there)
 
     def test_a_millisecond_is_one(self) -> None:
         run = run_of_journal("new #0 a\nadvance 5\nfire #0 ok 1\n#0 a ok 1\n", "t")

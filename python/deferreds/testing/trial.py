@@ -25,7 +25,7 @@ from .recorded import RecordedTest, RecordedTests
 
 _OPTION = "deferreds-record"
 _PLAIN = "deferreds-plain"
-_SHAKE, _SEED, _FAST = "shake", "seed", "fast"
+_SHAKE, _SEED, _WITHIN, _ONLY, _FAST, _NO_CUT = "shake", "seed", "within", "only", "fast", "no-cut"
 
 _Options: Any = trial.Options
 _run: Callable[[], object] = trial.run
@@ -39,9 +39,13 @@ class Options(_Options):
         [_PLAIN, None, "", "record these kinds of objects as the Python that they are made of"],
         [_SHAKE, None, None, "run each test this many times, shaken by a seed each time, and record the first run that fails"],
         [_SEED, None, None, "with --shake: the first seed"],
+        [_WITHIN, None, None, "with --shake: how many seconds a run may take"],
     ]
 
-    optFlags = [[_FAST, None, "with --shake: have the clock jump over a wait in which nothing but time can bring anything"]]
+    optFlags = [
+        [_FAST, None, "with --shake: have the clock jump over a wait in which nothing but time can bring anything"],
+        [_NO_CUT, None, "with --shake: don't look which perturbations a failure needs"],
+    ]
 
     #: whether tests are shaken: then the reactor isn't installed in this process
     shakes = False
@@ -54,6 +58,10 @@ class Options(_Options):
             super().opt_reactor(shortName)
 
     opt_r = opt_reactor
+
+    def opt_only(self, key: str) -> None:
+        """with --shake: shake only what has this key, as a search has named it; may be given several times"""
+        self.setdefault(_ONLY, []).append(key)
 
     def opt_help(self) -> None:
         """Display this help and exit."""
@@ -71,8 +79,9 @@ class Options(_Options):
             if not self["tests"]:
                 raise usage.UsageError(f"--{_SHAKE} needs the name of a test, of a module or of a package")
             raise _Shaken(self)
-        if self[_FAST]:
-            raise usage.UsageError(f"--{_FAST} is for --{_SHAKE}")
+        alone = next((name for name in (_SEED, _WITHIN, _ONLY, _FAST, _NO_CUT) if self.get(name)), None)
+        if alone is not None:
+            raise usage.UsageError(f"--{alone} is for --{_SHAKE}")
         super().postOptions()
         if not self[_OPTION]:
             return
@@ -99,10 +108,12 @@ class _Shaken(Exception):
 def _shake(options: Any) -> int:
     """Shakes each of the tests. Gives 1 if one fails, and else 2 if one fails alone."""
     words = ["--shake", options[_SHAKE], "-o", os.path.join(options[_OPTION] or os.curdir, "")]
-    for name, option in ((_SEED, "--seed"), ("reactor", "--reactor"), (_PLAIN, "--plain")):
+    for name, option in ((_SEED, "--seed"), (_WITHIN, "--within"), ("reactor", "--reactor"), (_PLAIN, "--plain")):
         if options.get(name):
             words += [option, options[name]]
-    words += [f"--{_FAST}"] if options[_FAST] else []
+    for key in options.get(_ONLY, []):
+        words += ["--only", key]
+    words += [f"--{name}" for name in (_FAST, _NO_CUT) if options[name]]
     statuses = [record.main([*words, "--test", test]) for test in options["tests"]]
     return min(filter(None, statuses), default=0)
 

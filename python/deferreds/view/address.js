@@ -53,6 +53,7 @@ function arrive(row, top) {
   const line = row !== null && isHere(row) ? row : null;
   if (line !== null && !isRowShown(line) && slots[slotAt(line)].kind === LINE) reveal(line);
   makeCurrent(line);
+  foundAt(line);
   if (top !== null && isHere(top)) return goToTop(top);
   if (line !== null) return bringToSight(line, true);
   if (planted !== null) return tree.scrollIntoView();

@@ -37,14 +37,20 @@ class Tree:
         record = self._run.fold.records[self._number]
         vain: List[Part] = [OfLine(row) for row in sorted([*record.refused, *record.swallowed])]
         where: Phrase = (" in ", *listed(vain, _MOST_NAMED)) if vain else ()
-        return (OfDeferred(self._number), " ", OfScript(record.end), ": ", self.spent(record), *where)
+        return (OfDeferred(self._number), *self._called(record), " ", OfScript(record.end), ": ", self.spent(record), *where)
+
+    def _called(self, record: Record) -> Phrase:
+        """What the inline body of a Deferred was called with, if that is known."""
+        call = self._run.places.call_of(record.names)
+        return words(", called as ", OfScript(call), ",") if call else words()
 
     def spent(self, record: Record) -> str:
         """How long the Deferred was unfired, waited and was paused, how many of its sides ran, and how many firings had no effect."""
         spent = self._run.durations.of(record)
         paused = [f"paused {self._run.ticks(spent.paused)}"] if spent.paused else []
         parts = [f"unfired {self._run.ticks(spent.unfired)}", f"waited {self._run.ticks(spent.waited)}", *paused]
-        return ", ".join([*parts, f"{several(spent.sides, 'callback', 'callbacks')} ran", *record.in_vain])
+        waiting = [several(record.waiting_pairs, "pair waits", "pairs wait")] if record.waiting_pairs else []
+        return ", ".join([*parts, f"{several(spent.sides, 'callback', 'callbacks')} ran", *waiting, *record.in_vain])
 
     def lines(self) -> Iterator[Tuple[int, Phrase]]:
         """The branches: how deep each lies, and what it says."""
@@ -63,6 +69,7 @@ class Tree:
             Does.MADE: ("is made in a callback of ", *other) if other else ("is made",),
             Does.FIRED: ("is fired: ", own, *self._by(step, other)),
             Does.WAITS: ("waits for ", *other, *self._until(step)),
+            Does.AWAITED: ("is awaited by ", *other, *self._who_awaits(step)),
             Does.RAN: ("a callback runs", *self._comes_to(step)),
             Does.MAKES: ("makes ", *other),
             Does.FIRES: ("fires ", *other, ": ", own),
@@ -79,6 +86,10 @@ class Tree:
             return ()
         spent = words(" [", self.spent(record), "]") if opens else words()
         return (OfDeferred(record.number), *spent)
+
+    def _who_awaits(self, step: Step) -> Phrase:
+        record = self._run.fold.records.get(step.other) if step.other is not None else None
+        return self._called(record)[:-1] if record is not None else ()
 
     def _hangs(self, step: Step) -> Phrase:
         if step.hang is not None and step.hang.at is At.TIMEOUT:

@@ -111,11 +111,13 @@ def _print_json(run: Run) -> None:
 
 
 def _print_text(run: Run, asked: Optional[str], only_report: bool) -> None:
+    from shutil import get_terminal_size
+
     from .branches import found
     from .terminal import Terminal
 
     color = sys.stdout.isatty() and not os.environ.get("NO_COLOR") and os.environ.get("TERM") != "dumb"
-    terminal = Terminal(run, color)
+    terminal = Terminal(run, color, get_terminal_size().columns if sys.stdout.isatty() else 0)
     numbers = found(run, asked) if asked is not None else []
     if numbers is None:
         raise Failed(NO_INPUT, f"{visible(run.title)} has no Deferred {visible(clipped(asked or '', 100))}")

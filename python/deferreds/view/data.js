@@ -43,7 +43,7 @@ function names(row, number) {
 const deferreds = new Map(data.deferreds.map(one => [one[0], {
   number: one[0], names: one[1], name: one[1].split(", ", 1)[0], end: one[2], value: one[3], waits: one[4],
   made: one[5], last: one[6], fired: one[7], by: one[8],
-  unfired: one[9][0], waited: one[9][1], paused: one[9][2], sides: one[9][3], spans: one[10], written: one[11], steps: null
+  unfired: one[9][0], waited: one[9][1], paused: one[9][2], sides: one[9][3], pairs: one[9][4], spans: one[10], written: one[11], steps: null
 }]));
 
 // the steps of a Deferred

@@ -31,8 +31,10 @@ row is written as its distance from the one before.
 | `brackets` | of each bracket: its kind, the row in which it begins, that in which it ends or -1 |
 | `deferreds` | for each Deferred of these rows, an array of those in `FIELDS` |
 | `stacks` | of some Deferreds, by their numbers: the places of the functions in which it was made, innermost first, part by part |
+| `calls` | of some Deferreds, by their numbers: what the inline body was called with |
 | `tables` | the numbers of the Deferreds in each table of outcomes, by the id of what holds it |
 | `axis` | the end of the axis of time, its marks as pairs of a time and a text, and the Deferreds on it; or null |
+| `copied` | the rows of the report as texts |
 
 A phrase is an array: a text is the view's own, an array of one text is a script's, a number from 0 is a Deferred, one below that is
 the row `-1 - number`, and an object has the number of a place.
@@ -41,7 +43,7 @@ the row `-1 - number`, and an object has the number of a place.
 from __future__ import annotations
 
 import json
-from typing import Any, Dict, Iterable, List, Optional, Tuple
+from typing import Any, Dict, Iterable, List, Optional, Sequence, Tuple
 
 from .axis import Axis
 from .brackets import brackets_of
@@ -151,8 +153,11 @@ class Phrases:
 class Data:
     """The data of a page that has these rows, and names these Deferreds elsewhere."""
 
-    def __init__(self, run: Run, events: Events, rows: range, outcomes: Outcomes, axis: Axis, named: Iterable[int]) -> None:
+    def __init__(
+        self, run: Run, events: Events, rows: range, outcomes: Outcomes, axis: Axis, named: Iterable[int], copied: Sequence[str] = ()
+    ) -> None:
         self._run = run
+        self._copied = copied
         self._rows = rows
         self._named = named
         self._outcomes = outcomes
@@ -177,8 +182,10 @@ class Data:
             "brackets": self._brackets(),
             "deferreds": [deferred_of(run, record, self._phrases.form) for record in self._told()],
             "stacks": {record.number: self._stack(record) for record in self._told() if run.places.stack_of(record.names)},
+            "calls": {record.number: visible(call) for record in self._told() for call in [run.places.call_of(record.names)] if call},
             "tables": self._outcomes.tables,
             "axis": self._axis.form,
+            "copied": list(self._copied),
             "files": self._places.files,
             "places": self._places.places,
             "functions": [visible(self._run.places.function_of(place)) for place in self._places.all],

@@ -22,7 +22,7 @@ FIELDS = (
     "last",
     "fired",
     "by",
-    #: for how many ticks it was unfired, waited and was paused, and how many of its callbacks ran
+    #: for how many ticks it was unfired, waited and was paused, how many of its callbacks ran, and how many of its pairs wait
     "spent",
     #: what it was from when on: rows, and after each twice the place in `State`, and 1 more if it was paused
     "spans",
@@ -50,7 +50,7 @@ def deferred_of(run: Run, record: Record, said: Callable[[Phrase, int], List[Any
         record.last,
         record.fired if record.fired is not None else -1,
         said(record.fired_by, _MOST_BY),
-        list(run.durations.of(record)),
+        [*run.durations.of(record), record.waiting_pairs],
         _spans(record),
         run.stories.written(record.number, run.durations),
     ]

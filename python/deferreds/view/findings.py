@@ -29,6 +29,8 @@ class Kind(enum.Enum):
     CIRCLE = "circle"
     HELD = "held"
     WENT_ON = "went on"
+    KEPT = "kept"
+    NOT_RETURNED = "no return"
     ODD = "odd"
     OVERTAKEN = "overtaken"
     UNFIRED = "unfired"

@@ -25,10 +25,10 @@ function choose(number, kept) {
 }
 // the rows that name a Deferred
 function rowsOf(number) { return lineRows().filter(row => names(row, number)); }
-// goes to the next row of the Deferred that is followed, or to the one before
+// goes to the next row of the Deferred that is followed, or to the one before: from the row that was chosen last, if it is in sight
 function go(step) {
-  const rows = rowsOf(chosen).filter(isRowShown), middle = innerHeight / 2;
-  const next = (step > 0 ? rows : rows.reverse()).find(row => (rowTop(row) - middle) * step > 12);
+  const rows = rowsOf(chosen).filter(isRowShown), middle = innerHeight / 2, from = current !== null && isInSight(current) ? current : null;
+  const next = (step > 0 ? rows : rows.reverse()).find(row => from !== null ? (row - from) * step > 0 : (rowTop(row) - middle) * step > 12);
   if (next === undefined) return;
   makeCurrent(next);
   bringToSight(next, true);

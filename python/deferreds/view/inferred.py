@@ -1,11 +1,11 @@
-"""Causes that no line tells, as rows of the report: a token that is never released, a body that went on after a cancel, a Deferred that
-is odd among those of its line, a result that was overtaken. What each says is exact, unless it says otherwise; that it is the cause is a
-guess, but for the token.
+"""Causes that no line tells, as rows of the report: a token that is never released, a value that isn't put back into a pool, a body that
+went on after a cancel, a Deferred that a callback didn't return, one that is odd among those of its line, a result that was overtaken.
+What each says is exact, unless it says otherwise; that it is the cause is a guess, but for the token.
 """
 
 from __future__ import annotations
 
-from typing import Dict, List, Optional, Sequence, Set, Tuple
+from typing import Callable, Dict, List, Optional, Sequence, Set, Tuple
 
 from .after_cancel import WentOn, went_on
 from .bodies import Bodies
@@ -14,7 +14,9 @@ from .crossed import Link, crossed
 from .durations import Durations
 from .findings import Finding, Kind, Severity, details_of
 from .fold import Fold
-from .left import LeftTokens
+from .kept import Got, Pool, getters, pool_of
+from .left import LeftGetters, LeftTokens
+from .not_returned import NotReturned, not_returned
 from .overtaken import Overtaken, overtaken
 from .phrases import OfDeferred, OfLine, OfPlace, OfScript, Phrase, words
 from .places import Place, Places
@@ -25,7 +27,7 @@ from .sites import FAIL, Site, Sites, end_of
 from .sizes import several
 from .tokens import Held, Holders, asked_in
 from .units import said_of
-from .world import Lock
+from .world import Lock, Queue
 
 _MOST_HELD = 3
 
@@ -33,9 +35,12 @@ _MOST_HELD = 3
 class Inferred:
     """What may be the cause of what is left, or of what went another way than usual."""
 
-    def __init__(self, fold: Fold, script: Script, places: Places, row_places: RowPlaces, durations: Durations, tick: str) -> None:
+    def __init__(
+        self, fold: Fold, script: Script, places: Places, row_places: RowPlaces, durations: Durations, tick: str, bodies: Callable[[], Bodies]
+    ) -> None:
         self._fold = fold
         self._script = script
+        self._find_bodies = bodies
         self._places = places
         self._row_places = row_places
         self._durations = durations
@@ -60,7 +65,7 @@ class Inferred:
     @property
     def _bodies(self) -> Bodies:
         if self._known_bodies is None:
-            self._known_bodies = Bodies(self._fold, self._script.bodies)
+            self._known_bodies = self._find_bodies()
             self._asked = asked_in(self._fold)
             self._note_bodies(self._known_bodies)
         return self._known_bodies
@@ -107,7 +112,7 @@ class Inferred:
         guess: List[Phrase] = [] if holders.is_sure else [("which of its tokens were released is a guess",)]
         given = sum(deferred >= 0 for deferred, _ in lock.moves)
         back = len(lock.moves) - given
-        counts: Phrase = (f"given {several(given, 'time', 'times')}, released {several(back, 'time', 'times')}",)
+        counts: Phrase = (f"taken {several(given, 'time', 'times')}, released {several(back, 'time', 'times')}",)
         is_held = "is held" if one.given == 1 else "are held"
         said: Phrase = (f"{one.given} of {several(one.tokens, 'token', 'tokens')} of {lock.name} {is_held}",)
         lost = next((held for held in holders.held if self._is_lost(held)), None)
@@ -174,8 +179,7 @@ class Inferred:
 
     def awaits_at(self, body: Record) -> Phrase:
         """The line of the program in which a body awaited last, as the end of a sentence, if that is known."""
-        place = self._row_places.of(self._fold.rows[body.awaits_at]) if body.awaits_at is not None else None
-        return words(" at ", OfPlace(place)) if place is not None else words()
+        return self._stands_at(body.awaits_at) if body.awaits_at is not None else words()
 
     def _made(self, number: int) -> Phrase:
         """Where a Deferred was made, between commas."""
@@ -227,13 +231,20 @@ class Inferred:
         ]
 
     def _odd(self, record: Record, site: Site) -> Finding:
-        cancel = record.cancelled or 0
-        by = in_whom(self._fold.said_by(self._fold.rows[cancel].actor))
         said = words(OfDeferred(record.number), f" was unfired for {said_of(self.sites.unfired(record), self._tick)}, and then cancelled")
-        cancelled = words("it was cancelled in ", OfLine(cancel), *by)
+        cancelled = words(*self.cancelled_in(record.cancelled or 0), *in_whom(self._fold.said_by(self._fold.rows[record.cancelled or 0].actor)))
         guess = words("a guess, since it is odd among these: ", self._others(site.among))
         details = details_of(self.made_at(record), [guess], self._waiters(record), self.again(record), [cancelled])
         return Finding(Severity.LIKELY, Kind.ODD, said, details, record.row)
+
+    def cancelled_in(self, row: int) -> Phrase:
+        """In which line a Deferred was cancelled, and which line of the program did it, if that is known."""
+        return ("it was cancelled in ", OfLine(row), *self._stands_at(row))
+
+    def _stands_at(self, row: int) -> Phrase:
+        """The line of the program that a row tells of, as the end of a sentence, if that is known."""
+        place = self._row_places.of(self._fold.rows[row])
+        return words(" at ", OfPlace(place)) if place is not None else words()
 
     def _waiters(self, record: Record) -> List[Phrase]:
         """The bodies that awaited a Deferred last."""
@@ -251,6 +262,12 @@ class Inferred:
         after = [one for one in self._made_by[site.place, body] if one.row > cancel]
         return [("after that the body of ", *self.body(body), " made another there: ", OfDeferred(one.number), *self._got(one)) for one in after[:1]]
 
+    def _for(self, job: Record) -> Phrase:
+        """What the result of a job was, and of which body, as far as these are known."""
+        outcome, body = self._fold.rows[job.fired or 0].entry.outcome, self._bodies.acting.get(job.row)
+        result = words(": ", OfScript(outcome.text)) if outcome is not None else words()
+        return words(*result, *(words(" for ", *self.body(body)) if body is not None else ()))
+
     def _got(self, record: Record) -> Phrase:
         """What a Deferred was fired with, as the end of a sentence."""
         outcome = self._fold.rows[record.fired].entry.outcome if record.fired is not None else None
@@ -267,13 +284,68 @@ class Inferred:
         by = in_whom(self._fold.said_by(rows[one.cancel].actor))
         said = words(*self.body(body.number), *self._made(body.number), " went on after it was cancelled")
         awaited = rows[one.awaited[0]].entry.other
-        place = self._row_places.of(rows[one.awaited[0]])
-        at = words(" at ", OfPlace(place)) if place is not None else words()
-        next_one = words("then its body awaited ", OfDeferred(awaited), *at, " in ", OfLine(one.awaited[0]))
+        next_one = words("then its body awaited ", OfDeferred(awaited), *self._stands_at(one.awaited[0]), " in ", OfLine(one.awaited[0]))
         more = [(several(len(one.awaited) - 1, "more await followed", "more awaits followed"),)] if len(one.awaited) > 1 else []
-        cancelled = words("it was cancelled in ", OfLine(one.cancel), *by)
+        cancelled = words(*self.cancelled_in(one.cancel), *by)
         guess = words("a guess: it may only clean up")
         return Finding(Severity.LIKELY, Kind.WENT_ON, said, details_of([cancelled, next_one], more, [self._ended(body.number), guess]), one.awaited[0])
+
+    # values that weren't put back, and Deferreds that weren't returned
+
+    def kept(self, left: Sequence[LeftGetters]) -> List[Finding]:
+        """The pools whose values weren't put back, where others wait for one."""
+        queues = [queue for queue in (self._fold.world.queues.at(one.number) for one in left) if queue is not None]
+        found = [(queue, pool_of(self._fold, self._bodies, queue)) for queue in queues]
+        return [self._kept(queue, pool) for queue, pool in found if pool is not None and pool.lost]
+
+    def is_pool(self, queue: Queue) -> bool:
+        """Whether who gets a value of a queue puts it back."""
+        return pool_of(self._fold, self._bodies, queue) is not None
+
+    def _kept(self, queue: Queue, pool: Pool) -> Finding:
+        first, back = pool.lost[0], pool.back[0]
+        said = words(*self._got_value(first, queue), " and didn't put it back")
+        others: List[Phrase] = [("nor did ", *self.body(one.body), " ", OfScript(one.value)) for one in pool.lost[1:_MOST_HELD]]
+        count = several(len(pool.back), "other value that was got was put back", "other values that were got were put back")
+        guess = words(f"a guess, since {count}: as by ", *self.body(back.body), *self._stands_at(back.back or 0))
+        details = details_of([self._ended(first.body)], self.thing_made_at(queue.name), others, [guess])
+        return Finding(Severity.LIKELY, Kind.KEPT, said, details, self._fold.records[first.deferred].fired)
+
+    def _got_value(self, got: Got, queue: Queue) -> Phrase:
+        """Who got which value of a queue, and where."""
+        return words(*self.body(got.body), " got ", OfScript(got.value), f" from {queue.name}", *self._at(got.deferred))
+
+    def getters(self, queue: Queue) -> List[Phrase]:
+        """The bodies that got the values of a queue, where these are few."""
+        if not self.is_recorded:
+            return []
+        found = getters(self._fold, self._bodies, queue)
+        if len(found) > _MOST_HELD:
+            return []
+        return [words(*self.body(body), *self._made(body), f" got {several(count, 'value', 'values')} of it") for body, count in found.items()]
+
+    def not_returned(self) -> List[Finding]:
+        """The Deferreds that callbacks didn't return, a row for each line of the program."""
+        if not self._places:
+            return []
+        lines: Dict[Optional[Place], List[NotReturned]] = {}
+        for one in not_returned(self._fold, self._bodies):
+            lines.setdefault(self.place_of(one.record), []).append(one)
+        return [self._not_returned(line[0], len(line) - 1) for place, line in lines.items() if place is not None]
+
+    def _not_returned(self, one: NotReturned, others: int) -> Finding:
+        record = one.record
+        ticks = self._fold.rows[record.fired or 0].time - self._fold.rows[one.next].time
+        said = words("a callback of ", OfDeferred(one.chain), " made ", OfDeferred(record.number), *self._at(record.number), ", and didn't return it")
+        begun = [frames[0] for frames in self._places.stack_of(record.names)[1:2]]
+        added = [words("that callback was added at ", OfPlace(frame.place), " in ", OfScript(frame.function)) for frame in begun]
+        too_soon = f"{said_of(ticks, self._tick)} before that was fired" if record.fired is not None else "and that is unfired"
+        later = words("the next one ran in ", OfLine(one.next), f", {too_soon}")
+        outcome = self._fold.rows[record.fired].entry.outcome if record.fired is not None else None
+        nobody = words("nobody got what it was fired with: ", OfScript(outcome.text)) if outcome is not None else words("nobody waits for it")
+        more = [(f"{several(others, 'other of this line was', 'others of this line were')} not returned, too",)] if others else []
+        guess = words("a guess: it may be meant to go on by itself")
+        return Finding(Severity.LIKELY, Kind.NOT_RETURNED, said, details_of(added, [later, nobody], more, [guess]), record.row)
 
     # results that came late
 
@@ -281,12 +353,11 @@ class Inferred:
         """The jobs whose results came after those of what began later, a row for each line of the program."""
         return list(map(self._overtaken, overtaken(self.sites)))
 
-    @staticmethod
-    def _overtaken(one: Overtaken) -> Finding:
+    def _overtaken(self, one: Overtaken) -> Finding:
         late, first = one.late, one.first
         said = words("the result of the job of ", OfDeferred(late.number), " came after that of ", OfDeferred(first.number), ", which began later")
         made = words("both began at ", OfPlace(one.site.place), ", in ", OfLine(late.row), " and ", OfLine(first.row))
-        came = words("they came in ", OfLine(late.fired or 0), " and ", OfLine(first.fired or 0))
+        came = words("they came in ", OfLine(late.fired or 0), *self._for(late), " and ", OfLine(first.fired or 0), *self._for(first))
         others = [(f"{several(one.others, 'other job', 'other jobs')} of this line came late, too",)] if one.others else []
         guess = words("a guess: it isn't known whether the order matters")
         return Finding(Severity.NOTE, Kind.OVERTAKEN, said, details_of([made, came], others, [guess]), late.fired)

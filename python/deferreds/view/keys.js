@@ -12,7 +12,9 @@ function step(by) {
   const isThere = current !== null && isRowShown(current), seen = rowAt(AT_TOP), way = by < 0 ? -1 : 1;
   const from = above[slotAt(isThere ? current : seen === null ? first : seen)];
   let at = Math.max(0, Math.min(shownSlots.length - 1, isThere || Math.abs(by) > 1 ? from + by : from));
-  while (at >= 0 && at < shownSlots.length && slots[shownSlots[at]].kind !== LINE) at += at === shownSlots.length - 1 ? -1 : way;
+  // (the first and the last slot may be no lines)
+  const on = at === shownSlots.length - 1 ? -1 : at === 0 ? 1 : way;
+  while (at >= 0 && at < shownSlots.length && slots[shownSlots[at]].kind !== LINE) at += on;
   if (at < 0 || at >= shownSlots.length) return;
   makeCurrent(slots[shownSlots[at]].row);
   bringToSight(current, false);

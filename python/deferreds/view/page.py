@@ -14,6 +14,7 @@ from .outcomes import Outcomes
 from .phrases import OfDeferred
 from .run import Run
 from .sizes import part_of, several
+from .terminal import Terminal
 from .texts import Html, escaped, joined, shortened
 
 #: up to which width of the screen lanes are folded away; `style.css` has the same number
@@ -49,6 +50,9 @@ class Page:
         self._markup = Markup(run.fold, run.script, self.rows, run.tick)
         self._ends = Outcomes(run, self._markup)
         self._axis = Axis(run)
+        self._terminal = Terminal(run, False)
+        #: the rows of the report as texts
+        self._copied: List[str] = []
 
     def pieces(self) -> Iterator[Html]:
         """What the page holds."""
@@ -68,7 +72,7 @@ class Page:
     def data(self) -> Data:
         """What the scripts draw."""
         events = Events(self._run.fold, self._run.script, self._run.places, self._run.row_places)
-        return Data(self._run, events, self.rows, self._ends, self._axis, self._markup.named)
+        return Data(self._run, events, self.rows, self._ends, self._axis, self._markup.named, self._copied)
 
     def _plain(self) -> Iterator[Html]:
         """What shows where no script runs."""
@@ -133,9 +137,11 @@ class Page:
             details[0] = Html(
                 f" <span class=why>· {self._markup.said(finding.details[0], _MOST_TEXT)}</span>"
             )
+        self._copied.append(self._terminal.copied(finding))
+        copy = Html(f" <span class=why data-copy={len(self._copied) - 1}></span>")
         return Html(
             f"<tr class={finding.severity.value}><td>{finding.kind.value}</td><td>{where}</td>"
-            f"<td>{self._markup.said(finding.said, _MOST_TEXT)}{self._tree_of(finding)}{joined(details)}</td></tr>"
+            f"<td>{self._markup.said(finding.said, _MOST_TEXT)}{self._tree_of(finding)}{copy}{joined(details)}</td></tr>"
         )
 
     def _tree_of(self, finding: Finding) -> Html:

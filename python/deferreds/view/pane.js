@@ -41,6 +41,11 @@ function copy(text, told) {
   area.remove();
   told.textContent = copied ? "copied" : "can't be copied";
 }
+// each row of the report can be copied as text, as for a ticket
+all(".report [data-copy]").forEach(place => {
+  const note = made("span");
+  place.append("· ", button("copy as text", "act", () => copy(data.copied[Number(place.dataset.copy)], note)), note);
+});
 function editorField(place, row) {
   const label = made("label", "", "address of your editor "), field = made("input");
   field.value = template();

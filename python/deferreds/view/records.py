@@ -93,6 +93,11 @@ class Record:
         return self.names[0] if self.names else ""
 
     @property
+    def waiting_pairs(self) -> int:
+        """How many of its pairs wait for it to be fired."""
+        return self.pairs if self.fired is None else 0
+
+    @property
     def in_vain(self) -> List[str]:
         """How many firings had no effect, in words."""
         kinds = (("refused", self.refused), ("swallowed", self.swallowed))

@@ -83,6 +83,8 @@ class Report:
         self._failed = {one.number for one in left if isinstance(one, LeftFailure)}
         found = [*shaken_row(shaken, fold, places), *self._bad(finish), *self._open(), *self._notes()]
         found += inferred.went_on()
+        found += inferred.kept(list(self._of(LeftGetters)))
+        found += inferred.not_returned()
         found += inferred.odd({record.number for record in fold.records.values() if record.swallowed})
         found += inferred.overtaken()
         self.findings: List[Finding] = sorted(found, key=lambda finding: _KINDS.index(finding.kind))
@@ -337,9 +339,8 @@ class Report:
             return None
         waits = several(len(one.waiting), "waits", "wait")
         said: Phrase = (f"{waits} for a value of {queue.name}, and nothing is put",)
-        return Finding(
-            Severity.LEFT, Kind.GETTER, said, details_of(self._inferred.thing_made_at(queue.name), self._held(Root(At.QUEUE, one.number))), queue.row
-        )
+        made, got = self._inferred.thing_made_at(queue.name), self._inferred.getters(queue)
+        return Finding(Severity.LEFT, Kind.GETTER, said, details_of(made, got, self._held(Root(At.QUEUE, one.number))), queue.row)
 
     def _due(self, one: Left) -> Optional[Finding]:
         world = self._fold.world
@@ -411,7 +412,7 @@ class Report:
     def _notes(self) -> Iterator[Finding]:
         for one in self._of(LeftValues):
             queue = self._fold.world.queues.at(one.number)
-            if queue is not None:
+            if queue is not None and not self._inferred.is_pool(queue):
                 were = several(
                     one.values,
                     f"value of {queue.name} was never got",
@@ -449,7 +450,7 @@ class Report:
         if record.cancelled is None:
             return []
         ticks = late.time - self._fold.rows[record.cancelled].time
-        return [("it was cancelled in ", OfLine(record.cancelled), f", {self._ticks(ticks)} before" if ticks else "")]
+        return [(*self._inferred.cancelled_in(record.cancelled), f", {self._ticks(ticks)} before" if ticks else "")]
 
     def _by(self, row: Row) -> Phrase:
         """Who fires in this row, and where in the program, as far as these are known."""

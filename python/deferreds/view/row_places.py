@@ -187,15 +187,25 @@ class RowPlaces:
         return begun
 
     def _begun_at(self, row: Row, begins: Dict[int, int], found: List[Optional[Place]]) -> Optional[Place]:
-        """The line that has begun what a row tells of: that of the row that handed it to Twisted, of the `await` before it, of the side or the
-        call that it lies in, or of the event."""
+        """The line that has begun what a row tells of: that of the row that handed it to Twisted, of the `await` or the `cancel` before it, of
+        the side or the call that it lies in, or of the event."""
         if row.place in begins:
             return found[begins[row.place]]
-        if row.place > 0 and row.entry.word == "add" and self._fold.rows[row.place - 1].entry.word == "await":
+        if row.place > 0 and (self._is_of_await(row) or self._is_of_cancel(row)):
             return found[row.place - 1]
         if row.inside is not None:
             return found[row.inside]
         return self._places.of_event(row.event) if row.event is not None else None
+
+    def _is_of_await(self, row: Row) -> bool:
+        """Whether a row is the `add` of the `await` before it."""
+        return row.entry.word == "add" and self._fold.rows[row.place - 1].entry.word == "await"
+
+    def _is_of_cancel(self, row: Row) -> bool:
+        """Whether a row is what the `cancel` before it does: it cancels another Deferred, or fires one."""
+        before = self._fold.rows[row.place - 1]
+        fired = self._fold.records[before.entry.deferred].fired if before.entry.word == "cancel" else before.place
+        return (row.entry.word == "cancel" or row.entry.word in _FIRINGS) and (fired is None or fired > before.place)
 
 
 def _is_direct(pointer: str, around: str) -> bool:

@@ -5,6 +5,7 @@ from __future__ import annotations
 from typing import List, Optional, Sequence
 
 from .batches import Batches, text_of
+from .bodies import Bodies
 from .durations import Durations
 from .facts import Facts, read_facts
 from .fold import Fold
@@ -55,13 +56,21 @@ class Run:
         self._row_places: Optional[RowPlaces] = None
         self._inferred: Optional[Inferred] = None
         self._report: Optional[Report] = None
+        self._bodies: Optional[Bodies] = None
         self._stories: Optional[Stories] = None
+
+    @property
+    def bodies(self) -> Bodies:
+        """Whose inline body acts in each line."""
+        if self._bodies is None:
+            self._bodies = Bodies(self.fold, self.script.bodies)
+        return self._bodies
 
     @property
     def stories(self) -> Stories:
         """What each Deferred does, step by step."""
         if self._stories is None:
-            self._stories = Stories(self.fold, self.left)
+            self._stories = Stories(self.fold, self.left, self.bodies)
         return self._stories
 
     @property
@@ -84,7 +93,7 @@ class Run:
     def inferred(self) -> Inferred:
         """What no line tells: causes, and the lines of the program that made Deferreds."""
         if self._inferred is None:
-            self._inferred = Inferred(self.fold, self.script, self.places, self.row_places, self.durations, self.tick)
+            self._inferred = Inferred(self.fold, self.script, self.places, self.row_places, self.durations, self.tick, lambda: self.bodies)
         return self._inferred
 
     @property

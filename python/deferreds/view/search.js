@@ -34,6 +34,11 @@ function tellSearch() {
   const count = hitRows.length;
   found.textContent = !sought ? "" : hitAt >= 0 ? hitAt + 1 + " of " + count : several(count, "line", "lines");
 }
+// says which of the rows that have the text this one is
+function foundAt(row) {
+  hitAt = hitRows.indexOf(row);
+  tellSearch();
+}
 // goes to the next row that has the text, or to the one before; after the last one comes the first
 function nextHit(step) {
   if (!hitRows.length) return;

@@ -7,6 +7,7 @@ from __future__ import annotations
 import enum
 from typing import Dict, Iterator, List, NamedTuple, Optional, Set, Tuple
 
+from .bodies import Bodies
 from .durations import Durations
 from .fold import Fold
 from .hanging import object_name
@@ -17,6 +18,8 @@ from .records import BracketKind, By, Row
 MOST_BRANCHES = 2_000
 
 _CLOSERS = frozenset({"set", "take", "wait"})
+#: an inline body awaits again, or ends
+_STOPS = frozenset({"await", "fire"})
 _ASKED = frozenset({"cancel", "pause", "unpause"})
 _SILENT = frozenset({"run", "add", "name"})
 _BETWEEN = {At.CHILD, At.CHAIN}
@@ -30,6 +33,8 @@ class Does(enum.Enum):
     MADE = "m"
     FIRED = "f"
     WAITS = "w"
+    #: the inline body of another awaits it, or another waits for it, up to the end
+    AWAITED = "b"
     RAN = "r"
     #: it is cancelled, paused or unpaused
     ASKED = "a"
@@ -84,8 +89,9 @@ class Branch(NamedTuple):
 class Stories:
     """The steps of all Deferreds of a run."""
 
-    def __init__(self, fold: Fold, left: List[Left]) -> None:
+    def __init__(self, fold: Fold, left: List[Left], bodies: Bodies) -> None:
         self._fold = fold
+        self._acting = bodies.acting
         self.of: Dict[int, List[Step]] = {number: [] for number in fold.records}
         #: what lies directly in a side or a call, by its row
         self._inside: Dict[int, List[Step]] = {}
@@ -93,10 +99,16 @@ class Stories:
         self._runs: Dict[int, List[Step]] = {}
         self._waits: Dict[int, Step] = {}
         self._awaits: Dict[int, Step] = {}
+        #: the row in which the last callback of each began
+        self._ran: Dict[int, int] = {}
+        #: the inline bodies that have awaited
+        self._awaited: Set[int] = set()
         for row in fold.rows:
             self._end_awaits(row)
+            self._note_first(row)
             self._note(row)
             self._note_inside(row)
+        self._note_awaited()
         for one in left:
             if isinstance(one, LeftDeferred) and not one.running:
                 self._note_hangs(one)
@@ -110,6 +122,8 @@ class Stories:
         entry, place = row.entry, row.place
         number, word = entry.deferred, entry.word
         source = row.actor.number if row.actor.by is By.SIDE else None
+        if word in _STOPS:
+            self._goes_on(number, place)
         if word == "new":
             self._own(number, Step(Does.MADE, place, source))
         elif word == "fire":
@@ -119,6 +133,7 @@ class Stories:
         elif word in _IN_VAIN:
             self._own(number, Step(_IN_VAIN[word], place, source))
         elif word == "run":
+            self._ran[number] = place
             self._runs.setdefault(number, []).append(self._own(number, Step(Does.RAN, place)))
         elif word == "hand":
             waits = self._waits.pop(number, None)
@@ -126,6 +141,7 @@ class Stories:
                 waits.end = place
         elif word == "await":
             self._awaits[number] = self._own(number, Step(Does.WAITS, place, entry.other))
+            self._awaited.add(number)
         if word in _CLOSERS and row.closes and self._runs.get(number):
             self._runs[number].pop().end = place
         if word == "take":
@@ -143,16 +159,44 @@ class Stories:
                 step.end = row.inside
                 del self._awaits[number]
 
-    def _note_inside(self, row: Row) -> None:
-        entry = row.entry
-        if row.inside is None or row.closes or entry.word in _SILENT or entry.word in _CLOSERS:
+    def _goes_on(self, body: int, place: int) -> None:
+        """An inline body has gone on, at the latest in this row: at once, if whom it awaited was fired already."""
+        step = self._awaits.pop(body, None)
+        if step is not None and step.row is not None and step.other is not None:
+            ran = self._ran.get(step.other, place)
+            step.end = ran if ran > step.row else place
+
+    def _note_first(self, row: Row) -> None:
+        """What an inline body does before it awaits anything."""
+        body, word = self._acting.get(row.place), row.entry.word
+        if body is None or body in self._awaited or (word in _STOPS and row.entry.deferred == body):
             return
+        step = self._inner(row)
+        if step is not None:
+            self._own(body, step)
+
+    def _note_inside(self, row: Row) -> None:
+        step = self._inner(row) if row.inside is not None else None
+        if step is not None and row.inside is not None:
+            self._inside.setdefault(row.inside, []).append(step)
+
+    def _inner(self, row: Row) -> Optional[Step]:
+        """The step of what the line lies in, if it is one."""
+        entry = row.entry
+        if row.closes or entry.word in _SILENT or entry.word in _CLOSERS:
+            return None
         does = {"new": Does.MAKES, "fire": Does.FIRES}.get(entry.word, Does.OTHER)
         end = None
         if entry.word == "later" and entry.what == "call":
             does, end = Does.CALLS, self._came.get(row.place)
         other = entry.deferred if entry.deferred >= 0 else None
-        self._inside.setdefault(row.inside, []).append(Step(does, row.place, other, end))
+        return Step(does, row.place, other, end)
+
+    def _note_awaited(self) -> None:
+        """Who awaits a Deferred, or waits for it, when the run ends."""
+        for number, step in [*self._awaits.items(), *self._waits.items()]:
+            if step.other is not None and step.other in self.of:
+                self._own(step.other, Step(Does.AWAITED, step.row, number))
 
     def _note_hangs(self, one: LeftDeferred) -> None:
         for hang in one.hangs:
@@ -189,6 +233,8 @@ class Stories:
         enter(number, Mode.ALL, 1)
         while todo:
             step, mode, depth = todo.pop()
+            if step.does is Does.AWAITED and mode is not Mode.ALL:
+                continue  # (it is in that one's tree that this one stands)
             below = self._mode_below(step, mode)
             other = step.other
             opens = below is not None and other is not None and other not in shown

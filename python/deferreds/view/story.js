@@ -8,9 +8,12 @@ const tree = document.getElementById("tree");
 let planted = null;
 
 function stepsFor(number) { return deferreds.has(number) ? stepsOf(deferreds.get(number)) : []; }
+function pairsOf(one) { return one.pairs ? [several(one.pairs, "pair waits", "pairs wait")] : []; }
+// what the inline body of a Deferred was called with, if that is known
+function calledAs(number) { return data.calls[number] ? [", called as ", isolated(data.calls[number])] : []; }
 function spent(one) {
   const paused = one.paused ? ["paused " + inTicks(one.paused)] : [];
-  return ["unfired " + inTicks(one.unfired), "waited " + inTicks(one.waited), ...paused, several(one.sides, "callback", "callbacks") + " ran", ...inVain(one)].join(", ");
+  return ["unfired " + inTicks(one.unfired), "waited " + inTicks(one.waited), ...paused, several(one.sides, "callback", "callbacks") + " ran", ...pairsOf(one), ...inVain(one)].join(", ");
 }
 // the branches, each with how deep it lies, and whether the steps of the Deferred that it names stand below it
 function branchesOf(number) {
@@ -23,6 +26,7 @@ function branchesOf(number) {
   enter(number, "all", 1);
   while (todo.length && branches.length < MOST_BRANCHES) {
     const [step, mode, depth] = todo.pop(), below = modeBelow(step, mode);
+    if (step.does === "b" && mode !== "all") continue;
     const opens = below !== null && step.other !== null && !shown.has(step.other) && (UP.includes(step.does) || !claimed.has(step.other));
     branches.push({ step: step, depth: depth, opens: opens });
     if (mode !== "why") step.inside.slice().reverse().forEach(one => todo.push([one, mode === "up" ? "up" : "down", depth + 1]));
@@ -63,6 +67,7 @@ const TELLS = {
   m: (step, other) => ["is made", ...(other ? [" in a callback of ", other] : [])],
   f: (step, other) => ["is fired: ", rowText(step.row), ...(other ? [" by a callback of ", other] : [causeText(step.row)])],
   w: (step, other) => ["waits for ", other, ...until(step)],
+  b: (step, other) => ["is awaited by ", other, ...calledAs(step.other)],
   r: step => ["a callback runs", ...(step.end === null ? [", and hasn't ended"] : [" → ", rowText(step.end)])],
   n: (step, other) => ["makes ", other],
   g: (step, other) => ["fires ", other, ": ", rowText(step.row)],
@@ -94,7 +99,8 @@ function withAround(rows) {
   return kept;
 }
 function treeHead(one, rows) {
-  const head = made("h2", "", labelOf(one.number) + ", with all that hangs on it"), about = made("p", "facts");
+  const head = made("h2", "", labelOf(one.number)), about = made("p", "facts");
+  head.append(...calledAs(one.number), ", with all that hangs on it");
   about.append(ENDS[one.end] + " ", made("span", "mono", one.value), ": " + spent(one));
   const vain = stepsOf(one).filter(step => "xs".includes(step.does));
   vain.slice(0, MOST_NAMED).forEach((step, place) => about.append(place ? ", " : " in ", lineLink(step.row)));

@@ -2,6 +2,7 @@
 
 from __future__ import annotations
 
+from textwrap import wrap
 from typing import Dict, Iterator, List, Optional, Sequence
 
 from .branches import Tree
@@ -18,6 +19,8 @@ from .units import said_of, time_of
 
 _DEEPEST = 12
 _MOST_LINE, _MOST_TEXT, _MOST_EVENT, _MOST_SITE, _MOST_ODD = 160, 200, 100, 60, 5
+#: how many characters a line of the report has at least, if it wraps
+_LEAST_ROOM = 20
 #: the head of the table of lines of the program
 _HEAD = ("made at", "made", "ended", "half unfired up to", "longest", "odd")
 
@@ -40,18 +43,21 @@ _WORD_TONES: Dict[str, str] = {
 
 
 class Terminal:
-    """Writes a run as lines of text."""
+    """Writes a run as lines of text. The report wraps at words, if it is known how wide the terminal is."""
 
-    def __init__(self, run: Run, color: bool) -> None:
+    def __init__(self, run: Run, color: bool, width: int = 0) -> None:
         self._run = run
         self._color = color
+        self._width = width
         self._events = Events(run.fold, run.script, run.places, run.row_places)
         self._number = len(str(len(run.fold.rows)))
-        times = {row.time for row in run.fold.rows}
-        self._time = max((len(time_of(time, run.tick)) for time in times), default=1)
+        #: how many characters the longest time has
+        self._time = 1
 
     def lines(self) -> Iterator[str]:
         """All lines, each without its end."""
+        times = {row.time for row in self._run.fold.rows}
+        self._time = max((len(time_of(time, self._run.tick)) for time in times), default=1)
         yield from self.report()
         yield ""
         for row in self._run.fold.rows:
@@ -137,12 +143,27 @@ class Terminal:
         for problem in self._run.problems:
             yield self._toned("bad", f"warning: {self.said(problem)}")
 
+    def copied(self, finding: Finding) -> str:
+        """A row of the report alone, as for a ticket."""
+        at = f", line {finding.row + 1}" if finding.row is not None else ""
+        details = [f"  {self.said(detail)}" for detail in finding.details]
+        return "\n".join([f"{visible(self._run.title)}: {finding.kind.value}{at}", self.said(finding.said), *details, ""])
+
     def _finding(self, finding: Finding) -> Iterator[str]:
         at = f"  (line {finding.row + 1})" if finding.row is not None else ""
-        text = f"{_SIGNS[finding.severity]} {finding.kind.value:<9} {self.said(finding.said)}{at}"
-        yield self._toned(_TONES[finding.severity], text)
+        head = f"{_SIGNS[finding.severity]} {finding.kind.value:<9} "
+        for text in self._wrapped(head, f"{self.said(finding.said)}{at}"):
+            yield self._toned(_TONES[finding.severity], text)
         for detail in finding.details:
-            yield f"{'':13}{self.said(detail)}"
+            yield from self._wrapped(" " * len(head), self.said(detail))
+
+    def _wrapped(self, head: str, text: str) -> List[str]:
+        """A text behind a head, in lines that the terminal has room for; further lines begin below the text."""
+        room = self._width - len(head)
+        if room < _LEAST_ROOM:
+            return [head + text]
+        lines = wrap(text, room, expand_tabs=False, replace_whitespace=False, break_long_words=False, break_on_hyphens=False)
+        return [f"{' ' * len(head) if place else head}{line}" for place, line in enumerate(lines or [""])]
 
     def _row(self, row: Row) -> Iterator[str]:
         head = self._events.head(row)

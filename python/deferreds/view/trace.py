@@ -1,5 +1,5 @@
 """The run as a trace of Chrome's, which Perfetto opens: a track for each Deferred, slices for what it does, and flows
-for who fires whom (python/NOTES.md, "A trace").
+for who fires whom; and a track for each line of the program that made Deferreds (python/NOTES.md, "A trace").
 
 Many lines stand at one time of the virtual clock, and a slice of no length isn't seen. So each line takes a microsecond,
 and a tick is longer than all lines of one time: a millisecond, or the next power of ten that is. The times of a recorded run are
@@ -14,6 +14,7 @@ from typing import Any, Dict, Iterator, List, Optional
 from .nesting import LAST_POSTS
 from .records import Arrow, ArrowKind, Look, Record, Row, State
 from .run import Run
+from .sites import Site, end_of
 from .texts import clipped, visible
 from .units import seconds_of
 
@@ -95,7 +96,8 @@ class Trace:
         for row in self._rows:
             for arrow in row.arrows:
                 found += self._arrow(row, arrow)
-        order = {"X": 0, "s": 1, "f": 2}
+        found += [event for site in self._run.inferred.sites.all for event in self._unfired(site)]
+        order = {"b": 0, "X": 1, "s": 2, "f": 3, "e": 4}
         found.sort(key=lambda event: (event["ts"], order[event["ph"]], -event.get("dur", 0)))
         return [*self._names(), *found]
 
@@ -172,6 +174,17 @@ class Trace:
                 result = self._rows[end].entry.line if look.state is State.RUN and end < len(self._rows) else ""
                 more = {"ends with": visible(clipped(result, _MOST_TEXT))} if result else {}
                 yield self._slice(FIRST + record.number, look.state.value, said, start, self.clock.at(end), **more)
+
+    def _unfired(self, site: Site) -> Iterator[Json]:
+        """How long each Deferred of a line of the program was unfired. These overlap, so they are asynchronous slices of one name, which are
+        drawn as one track."""
+        name = visible(clipped(f"{site.place.text} {site.label}".rstrip(), _MOST_NAME))
+        for record in site.records:
+            end = record.fired if record.fired is not None else len(self._rows)
+            common = {"pid": PROCESS, "tid": EVENTS, "cat": "made", "id": record.number, "name": name}
+            about = {"deferred": visible(self._label(record.number)), "ended": end_of(self._run.fold, record), "place": visible(site.place.whole)}
+            yield {"ph": "b", "ts": self.clock.at(record.row), **common, "args": about}
+            yield {"ph": "e", "ts": self.clock.at(end), **common}
 
     def _said(self, start: int, look: Look) -> str:
         """What a Deferred does that looks so; an empty text where it is fired, and that is all."""

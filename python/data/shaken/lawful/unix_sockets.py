@@ -22,7 +22,13 @@ class Server(protocol.Protocol):
 
 def write(client, message):
     client.transport.socket.send(message)  # (to the system at once, and not in the transport's turn)
-    reactor.callLater(0.003, lambda: seen.append(message in b"".join(got)))
+    reactor.callLater(0.003, look_for, message)
+
+
+def look_for(message):
+    seen.append(message in b"".join(got))
+    if len(seen) == 4:
+        reactor.stop()
 
 
 @defer.inlineCallbacks
@@ -32,7 +38,6 @@ def main():
     yield made
     for number in range(4):
         reactor.callLater(0.01 * number, write, client, b"message %d" % number)
-    reactor.callLater(0.2, reactor.stop)
 
 
 reactor.callWhenRunning(main)

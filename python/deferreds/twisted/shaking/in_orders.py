@@ -26,10 +26,15 @@ _MOST_OUTCOMES = 300
 
 
 class Script(NamedTuple):
-    """The script, and what is said of it."""
+    """The script, the options that run its orders, and what is said of these."""
 
     text: str
-    said: str
+    options: str
+    orders: str
+
+    def said(self, shown: str) -> str:
+        """What is said of the script, which is kept under this name."""
+        return f"{as_called('./deferreds')} {self.options} {shown} runs {self.orders}"
 
 
 class Ends(NamedTuple):
@@ -39,9 +44,9 @@ class Ends(NamedTuple):
     is_late: bool
 
 
-def script_of(keys: Sequence[str], ends: Ends, passing: Recording, path: Path, shown: str) -> Optional[Script]:
+def script_of(keys: Sequence[str], ends: Ends, passing: Recording, path: Path) -> Optional[Script]:
     """The script of a run that passes, with the results as posts that these perturbations move; None, if they move something else, too, or it
-    can't be made. `path`: where the script may be written, and is removed. `shown`: how it is called where it is kept.
+    can't be made. `path`: where the script may be written, and is removed.
     """
     names = [key.split(" ")[1] for key in keys if key.split(" ", 1)[0] in _OF_RESULTS]
     if not keys or len(names) < len(keys):
@@ -51,7 +56,10 @@ def script_of(keys: Sequence[str], ends: Ends, passing: Recording, path: Path, s
         made = None if run is None else as_callers(json.loads(passing.files[".json"]), run, names)
         if run is None or made is None or outcome_of(run) != _outcome(made, text_of(made.batches)):
             return None
-        return Script(made.text, _said(made, ends, path, shown))
+        if made.orders > ORDERS:
+            sample = f"a sample of the {made.orders:,} orders of {several(made.posts, 'result', 'results')}"
+            return Script(made.text, f"--orders --sample {_SAMPLE} --seed 1", sample)
+        return Script(made.text, "--orders", _orders(made, ends, path))
     except Failed:  # (the program isn't there, or refuses the script, which may be too large for a language with posts)
         return None
 
@@ -68,13 +76,9 @@ def _outcome(made: AsCallers, batches: str) -> Counts[Tuple[str, str]]:
     return outcome_of(run_script(made.text.encode(), "the script", batches).run())
 
 
-def _said(made: AsCallers, ends: Ends, path: Path, shown: str) -> str:
-    """What is said of a script: how its orders run, and how many of these end as the run that fails."""
-    results = several(made.posts, "result", "results")
-    command = f"{as_called('./deferreds')} --orders"
-    if made.orders > ORDERS:
-        return f"{command} --sample {_SAMPLE} --seed 1 {shown} runs a sample of the {made.orders:,} orders of {results}"
-    has = f"{command} {shown} runs {several(made.orders, 'order', 'orders')} of {results}"
+def _orders(made: AsCallers, ends: Ends, path: Path) -> str:
+    """How many orders a script has, and how many of these end as the run that fails."""
+    has = f"{several(made.orders, 'order', 'orders')} of {several(made.posts, 'result', 'results')}"
     failed = _run_of(ends.failing)
     if failed is None:
         return has

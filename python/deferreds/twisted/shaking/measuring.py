@@ -14,7 +14,7 @@ from .runs import Ended, run
 from .shaker import Shaker
 
 #: how long a run may take
-_SECONDS = 20.0
+_SECONDS = 60.0
 
 
 class Measured(NamedTuple):

@@ -9,7 +9,7 @@ from typing import Any, Callable, Counter as Counts, Dict, FrozenSet, List, Mapp
 
 from ...checkout import command_name
 from ...program import NOT_RUN
-from ...view.names import COMPARED, ORDERS_SCRIPT
+from ...view.names import COMPARED, ORDERS_SCRIPT, RECORDING
 from ...view.sizes import several
 from ..recording.files import Place
 from ..recording.messages import Messages
@@ -23,7 +23,7 @@ from .kept import Room
 from .knowing import why_unknown
 from .left import left_of
 from .log import Log
-from .needed import Cutting, Needed
+from .needed import AGAIN, Cutting, Needed
 from .progress import Progress, runs
 from .runs import Ended, run
 from .shaker import Shaker
@@ -78,6 +78,14 @@ class Found(NamedTuple):
     ended: Ended
 
 
+class Kept(NamedTuple):
+    """A run that fails, of which the recording is kept."""
+
+    settings: Settings
+    why: Why
+    recording: Recording
+
+
 class Search:
     """One search."""
 
@@ -90,7 +98,9 @@ class Search:
         #: how many runs were made, and how many perturbations of which kind the shaken ones have met
         self._count = 0
         self.met: Counts[str] = Counter()
-        self._is_kept = False
+        #: whether a run has failed that wasn't shaken
+        self._is_busy = False
+        self._kept: Optional[Kept] = None
         self._waits = Waits()
 
     def run(self) -> int:
@@ -100,7 +110,7 @@ class Search:
             return self._run()
         except (KeyboardInterrupt, Stopped) as stopped:
             by = stopped.name if isinstance(stopped, Stopped) else "Ctrl-C"
-            self._progress.say(f"stopped by {by}, after {runs(self._count)}; {'the recording stays' if self._is_kept else 'nothing is kept'}")
+            self._progress.say(f"stopped by {by}, after {runs(self._count)}; {'the recording stays' if self._kept else 'nothing is kept'}")
             raise
         finally:
             if self._wanted.settings.is_fast:
@@ -120,6 +130,8 @@ class Search:
         self._keep(found, found.settings.only, {})
         if self._wanted.cuts:
             self._explain(found)
+        if self._kept is not None:
+            self._show(self._kept)
         return FAILED
 
     def _judging(self, plain: Sequence[Ended]) -> Judge:
@@ -130,6 +142,7 @@ class Search:
     def _has_plain(self) -> bool:
         """Makes plain runs, by which the others are judged, and says which of them fail: a busy machine shakes, too. Whether one passes."""
         passing: List[Ended] = []
+        is_late = True
         for number in range(1, _PLAIN + 1):
             self._progress.show(f"plain run {number} of {_PLAIN}")
             ended = self._plain()
@@ -137,11 +150,14 @@ class Search:
             if why is None:
                 passing.append(ended)
                 continue
+            self._is_busy = True
+            is_late = is_late and why.is_late
             self._say_output(ended)
             self._progress.say(f"plain run {number} of {_PLAIN} fails, which isn't shaken: {why.text}{_longer(why)}")
         self._judge = self._judging(passing)
         if not passing:
-            self._progress.say("nothing is shaken, since no plain run passes")
+            end = "; a program that serves for ever needs an end, as a timer that stops the reactor" if is_late else ""
+            self._progress.say(f"nothing is shaken, since no plain run passes{end}")
         return bool(passing)
 
     def _plain(self) -> Ended:
@@ -177,6 +193,7 @@ class Search:
             why = self._judge.why(ended)
             if why is not None and not ended.met:
                 unshaken += 1
+                self._is_busy = True
                 self._say_output(ended)
                 self._progress.say(f"the run of seed {settings.seed} fails, and has met nothing that is shaken: {why.text}{_longer(why)}")
             elif why is not None:
@@ -224,45 +241,62 @@ class Search:
             ended = self._shaken(settings, records=True, known=known)
             why = self._judge.why(ended)
             if why is not None and why.is_late == found.why.is_late:
-                self._write(settings, why, is_last=bool(known) or not self._wanted.cuts)
+                self._write(settings, why, ended)
                 return
-        stays = "; the one with all perturbations stays" if self._is_kept else ""
+        stays = "; the one with all perturbations stays" if self._kept else ""
         self._progress.say(f"none of {runs(_TRIES * len(_STRETCHES))} that were recorded failed{stays}")
 
-    def _write(self, settings: Settings, why: Why, is_last: bool) -> None:
-        """Gives a recording its place, at once. `is_last`: no other takes that, so it is shown beside a run that passes then."""
+    def _write(self, settings: Settings, why: Why, ended: Ended) -> None:
+        """Gives a recording its place, at once."""
         recording = self._room.recording()
         if recording is None:
-            self._progress.say(f"the failing run has left no recording: it {'was ended before that' if why.is_late else 'has used no Deferreds'}")
+            self._say_missing(why, ended)
             return
         recording = recording._replace(facts={**recording.facts, "shaken": {**recording.facts.get("shaken", {}), "fails": why.text}})
+        if self._is_written(recording):
+            self._kept = Kept(settings, why, recording)
+
+    def _say_missing(self, why: Why, ended: Ended) -> None:
+        """Says why there is no recording: in the recorder's own words, if it has said something."""
+        said = _own_lines(ended.output)
+        for line in said:
+            self._progress.say(line)
+        reason = "it was ended before that" if why.is_late else "it has used no Deferreds"
+        self._progress.say(f"the failing run has left no recording{'' if said else f': {reason}'}")
+
+    def _is_written(self, recording: Recording) -> bool:
+        """Writes a recording, and says what of it can't be. Whether any of it is."""
         written = self._room.keep(recording)
         for failure in written.failures:
             self._progress.say(failure)
-        if not written.is_any:
-            return
-        self._is_kept = True
-        if is_last:
-            self._progress.say(f"{written.name}.html shows the run that fails, and {written.name}.recording lists its files")
-            if not recording.has_script:
-                self._progress.say(str(recording.facts.get("compared", "")))
-            self._add_beside(settings, recording, why)
+        return written.is_any
 
-    def _add_beside(self, settings: Settings, recording: Recording, why: Why) -> None:
-        """Adds to a recording that has its place what shows it beside a run that passes."""
-        passing = self._passing(settings)
+    def _show(self, kept: Kept) -> None:
+        """Says where the recording is, which no other replaces, and adds to it what shows it beside a run that passes."""
+        recording, shown = kept.recording, self._place.shown
+        if self._has_file(".html"):
+            self._progress.say(f"{shown('.html')} shows the run that fails, and {shown(RECORDING)} lists its files")
+        else:
+            self._progress.say(f"{shown(RECORDING)} lists the files of the run that fails")
+        if not recording.has_script:
+            self._progress.say(str(recording.facts.get("compared", "")))
+        passing = self._passing(kept.settings)
         if passing is None:
             return
         more = {COMPARED: page_beside(self._place.name.name, recording, passing)}
-        said = [f"{self._place.shown(COMPARED)} shows it beside a run that passes"]
         room = self._room.name.with_name(f"{self._room.name.name}{ORDERS_SCRIPT}")
-        script = script_of(list(settings.only or ()), Ends(recording, why.is_late), passing, room, self._place.shown(ORDERS_SCRIPT))
+        script = script_of(list(kept.settings.only or ()), Ends(recording, kept.why.is_late), passing, room)
         if script is not None:
             more[ORDERS_SCRIPT] = script.text
-            said.append(script.said)
-        written = self._room.keep(recording._replace(files={**recording.files, **more}))
-        for line in [*written.failures, *(said if written.is_any else [])]:
-            self._progress.say(line)
+        if not self._is_written(recording._replace(files={**recording.files, **more})):
+            return
+        if self._has_file(COMPARED):
+            self._progress.say(f"{shown(COMPARED)} shows it beside a run that passes")
+        if script is not None and self._has_file(ORDERS_SCRIPT):
+            self._progress.say(script.said(shown(ORDERS_SCRIPT)))
+
+    def _has_file(self, ending: str) -> bool:
+        return self._place.name_with(ending).is_file()
 
     def _passing(self, settings: Settings) -> Optional[Recording]:
         """The recording of a run that passes: by all needed perturbations but one, or else by none. None, if there is none."""
@@ -280,11 +314,11 @@ class Search:
 
     def _explain(self, found: Found) -> None:
         """Cuts down, says what is needed, and records with that alone."""
-        cutting = Cutting(lambda keys: self._fails(found, frozenset(keys)), _MOST_CUTTING)
+        cutting = Cutting(lambda keys: self._fails(found, frozenset(keys)), _MOST_CUTTING, self._is_busy)
         all_keys = list(found.ended.met)
         needed = cutting.cut(all_keys)
         self._say_needed(found, needed, len(all_keys))
-        if not needed.keys or not needed.again:
+        if not needed.is_known:
             return
         words = self._words(found, needed.keys)
         sentences = [self._sentence(found, needed.keys, key, words[key]) for key in needed.keys]
@@ -305,12 +339,21 @@ class Search:
         return why is not None and why.is_late == found.why.is_late
 
     def _say_needed(self, found: Found, needed: Needed, count: int) -> None:
-        if not needed.keys:
+        if needed.needs_nothing:
             self._progress.say("it fails with no perturbation, too: the machine is busy enough")
         elif not needed.again:
-            self._progress.say(f"none of 5 further runs of seed {found.settings.seed} failed; threads aren't determined by a seed")
+            self._progress.say(f"none of {AGAIN} further runs of seed {found.settings.seed} failed; threads aren't determined by a seed")
+        elif not needed.is_known:
+            self._progress.say(
+                f"what it needs can't be told: with {'the perturbation' if count == 1 else f'all {count} perturbations'} it fails in "
+                f"{needed.again} of {AGAIN} runs, and with none in {needed.none} of {AGAIN}; the machine may be busy"
+            )
         else:
-            self._progress.say(f"{len(needed.keys)} of {count} perturbations {'is' if len(needed.keys) == 1 else 'are'} needed ({runs(needed.runs)}):")
+            one = len(needed.keys) == 1
+            self._progress.say(
+                f"{len(needed.keys)} of {several(count, 'perturbation', 'perturbations')} {'is' if one else 'are'} needed ({runs(needed.runs)}; "
+                f"{'with it' if one else 'with these'} alone {needed.alone} of {AGAIN} fail, with none {needed.none} of {AGAIN}):"
+            )
 
     def _words(self, found: Found, keys: Sequence[str]) -> Dict[str, str]:
         """What the needed perturbations did, in words, which are said."""
@@ -333,6 +376,12 @@ class Search:
         lines = [line for line in ended.output.rstrip().splitlines() if not line.startswith(own)]
         for line in lines[-_LINES_OF_OUTPUT:]:
             self._progress.say(f"  | {line}")
+
+
+def _own_lines(output: str) -> List[str]:
+    """What the recorder has said in a run."""
+    own = f"{command_name('record')}: "
+    return [line[len(own) :] for line in output.splitlines() if line.startswith(own)]
 
 
 def _again(settings: Settings, keys: Sequence[str]) -> str:
