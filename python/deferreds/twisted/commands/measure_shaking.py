@@ -1,6 +1,6 @@
 """`python/measure_shaking FILE..`: runs programs shaken by many seeds, and prints how many runs fail, a row a program.
 
-A run fails by its status, by an error that it logs, or if it takes longer than 20 s. `--plain N` makes N runs that aren't shaken before.
+A run fails by its status, by an error that it logs, or if it takes longer than 60 s. `--plain N` makes N runs that aren't shaken before.
 With `--reactor NAME` the programs run on that reactor: epoll, poll, select or asyncio. docs/SHAKE.md has the figures. The status is 0 if
 no run failed, and else 1.
 """
