@@ -29,7 +29,7 @@ impl<'s> World<'s> {
     ghost use Rattle.dv_world.specs.World.{aside, arrange, cooperator_at, cooperator_of};
     ghost use Rattle.dv_world.specs.World.{new_task, new_task_in, take_step, pause_task};
     ghost use Rattle.dv_world.specs.World.{resume_task, hold_task, end_task, await_task};
-    ghost use Rattle.dv_world.specs.World.{keep_tick, begin_tick, end_tick, set_units};
+    ghost use Rattle.dv_world.specs.World.{keep_tick, want_tick, begin_tick, end_tick, set_units};
     ghost use Rattle.dv_world.specs.World.{set_units_in, halt};
 
     /// Makes a task of bodies in the Cooperator that each script has, and binds its name to it, also
@@ -111,8 +111,9 @@ impl<'s> World<'s> {
     }
 
     /// Logs the next step of a Cooperator, and returns the task that takes it with its next body,
-    /// where one is left; None where nobody takes turns.
-    #[tactic(auto, unfolding(crate::specs::World::aside))]
+    /// where one is left; None where nobody takes turns, and then the next turn is that of the first
+    /// that joins.
+    #[tactic(auto, unfolding(crate::specs::World::aside, crate::specs::World::arrange))]
     pub fn take_step(
         &mut self,
         of: CooperatorId,
@@ -123,6 +124,7 @@ impl<'s> World<'s> {
             return Ok(None);
         }
         let Some(id) = self.cooperators.turn(of) else {
+            self.cooperators.go_on(of);
             return Ok(None);
         };
         let Some(task) = self.cooperators.task(id) else {
@@ -251,6 +253,22 @@ impl<'s> World<'s> {
             self.drop_tick(of, tick);
         }
         Ok(())
+    }
+
+    /// After a task has joined a Cooperator its next tick is scheduled, unless one is, or one is
+    /// under way; by Twisted's rule also while one is under way (Twisted: `Cooperator._addTask`).
+    pub fn want_tick(&mut self, of: CooperatorId) -> Result<(), AllocError>
+        ensures { OnOk result (self.new ≡ want_tick of self.old) }
+    {
+        let Some(one) = self.cooperators.cooperator(of) else {
+            return Ok(());
+        };
+        if !one.wants_tick_at_once() {
+            return Ok(());
+        }
+        let what = one.next_tick(self.alloc, of)?;
+        let delay = one.delay;
+        self.schedule_tick(of, what, delay)
     }
 
     /// Schedules the next tick of a Cooperator.
