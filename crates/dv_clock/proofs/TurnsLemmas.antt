@@ -148,7 +148,8 @@ pub on_place : (o : Option Joined) (e : Joined) (b : ℕ) → (1 ≤ b → o ≡
 on_place o e zero h g = refl
 on_place o e (suc b) h g = let none : o ≡ None = h (omega arith) in absurd cc
 
-turn_here : (rule : TurnRule) (order : List Joined) (p : Place) (e : Joined) → IsStrictlySortedBy nat_cmp (keys_of order)
+turn_here : (rule : TurnRule) (order : List Joined) (p : Place) (e : Joined)
+    → IsStrictlySortedBy nat_cmp (keys_of order)
     → p.beyond ≡ 0 → found_from p.next order ≡ Some e → IsTurn rule order p e
 turn_here rule order p e s z h =
     let few = slice_get_within order (stepped p.next order) e h in
@@ -173,7 +174,8 @@ none_found : (next : ℕ) (order : List Joined) → found_from next order ≡ No
 none_found next [] h = omega arith
 none_found next (j ∷ order) h = end_by next j order (nat_lt j.0 next) refl (none_found next order) h
 
-turn_again : (rule : TurnRule) (order : List Joined) (p : Place) (e : Joined) → IsStrictlySortedBy nat_cmp (keys_of order)
+turn_again : (rule : TurnRule) (order : List Joined) (p : Place) (e : Joined)
+    → IsStrictlySortedBy nat_cmp (keys_of order)
     → found_from p.next order ≡ None → slice_get order 0 ≡ Some e → IsTurn rule order p e
 turn_again rule [] p e s h g = absurd cc
 turn_again rule (j ∷ order) p e s h g =
@@ -192,7 +194,8 @@ turn_by rule order p e None s past h g = turn_again rule order p e s h g
 turn_by rule order p e (Some j) s past h g =
     turn_here rule order p e s (on_place (found_from p.next order) j p.beyond past h) (h ∙ g)
 
-pub turn_is : (rule : TurnRule) (order : List Joined) (p : Place) (e : Joined) → IsStrictlySortedBy nat_cmp (keys_of order)
+pub turn_is : (rule : TurnRule) (order : List Joined) (p : Place) (e : Joined)
+    → IsStrictlySortedBy nat_cmp (keys_of order)
     → (1 ≤ p.beyond → found_from p.next order ≡ None)
     → Some e ≡ turn_from (found_from p.next order) order → IsTurn rule order p e
 turn_is rule order p e s past h = turn_by rule order p e (found_from p.next order) s past refl (sym h)
@@ -398,7 +401,8 @@ length_more : (order : List Joined) (j : Joined) → length (order ++ j ∷ []) 
 length_more [] j = refl
 length_more (i ∷ order) j = ap suc (length_more order j)
 
-joins_by : (order : List Joined) (numbers : List (ℕ × ℕ)) (given task : ℕ) (p : Place) (b : Bool) → nat_eq p.beyond 0 ≡ b
+joins_by : (order : List Joined) (numbers : List (ℕ × ℕ)) (given task : ℕ) (p : Place) (b : Bool)
+    → nat_eq p.beyond 0 ≡ b
     → IsKept order numbers given p →
     JoinsAt order (order ++ (given, task) ∷ []) given p
     (if b then p else record { next = given + 1; beyond = p.beyond - 1 })
@@ -448,7 +452,8 @@ kept_more order more numbers found given task p k h e s f =
       below = below_more given task order k.below;
       once = once_more given task order h k.once;
       found =
-          λ other. f other ∙ ap (cond (nat_eq task other) (Some given)) (k.found other) ∙ sym (found_more given task other order h);
+          λ other. f other ∙ ap (cond (nat_eq task other) (Some given)) (k.found other)
+          ∙ sym (found_more given task other order h);
       begun = joins.place.begun;
       within = joins.place.within;
       past = joins.place.past;
@@ -573,7 +578,8 @@ none_removed task (t ∷ ts) h =
 
 -- who takes turns once a task has left, also where it took none
 left_by_among : (task : ℕ) (t : Turns) (b : Bool) → is_among task t.tasks ≡ b →
-    (if b then record t { tasks = remove_key (nat_eq task) t.tasks; position = position_left t.rule task t } else t).tasks
+    (if b then record t { tasks = remove_key (nat_eq task) t.tasks; position = position_left t.rule task t }
+    else t).tasks
     ≡ remove_key (nat_eq task) t.tasks
 left_by_among task t true h = refl
 left_by_among task t false h = sym (none_removed task t.tasks h)
@@ -914,7 +920,8 @@ pub kept_less : (rule : TurnRule) (order less : List Joined) (numbers found : Li
     → IsKept less found given (place_left rule number (found_from p.next less) p)
 kept_less rule order less numbers found given task number p k h e s f =
     let e' = e ∙ removed_is task number order k.ascends h in
-    let leaves = leaves_at rule order less given task number p (leaves_of order less numbers given task number p k h e s) in
+    let leaves =
+    leaves_at rule order less given task number p (leaves_of order less numbers given task number p k h e s) in
     record {
       ascends = s;
       below = subst (AreBelow given) (sym e') (below_less given task order k.below);
@@ -929,7 +936,8 @@ kept_less rule order less numbers found given task number p k h e s f =
     }
 
 -- what contracts see when a task leaves
-pub seen_less : (rule : TurnRule) (order less : List Joined) (numbers : List (ℕ × ℕ)) (given task number : ℕ) (p : Place)
+pub seen_less : (rule : TurnRule) (order less : List Joined) (numbers : List (ℕ × ℕ)) (given task number : ℕ)
+    (p : Place)
     → IsKept order numbers given p → number_of task order ≡ Some number
     → less ≡ remove_entry (is_at (nat_cmp number)) order → IsStrictlySortedBy nat_cmp (keys_of less)
     → seen rule less (place_left rule number (found_from p.next less) p) ≡ left task (seen rule order p)
@@ -968,7 +976,8 @@ pub room_left : (order : List Joined) (numbers : List (ℕ × ℕ)) (given task 
 room_left order numbers given task number p k h = room_by order numbers given task number p (nat_eq p.beyond 0) refl k h
 
 -- and so was the number of each that is left
-pub next_given : (order less : List Joined) (numbers : List (ℕ × ℕ)) (given task number next : ℕ) (p : Place) (j : Joined)
+pub next_given : (order less : List Joined) (numbers : List (ℕ × ℕ)) (given task number next : ℕ) (p : Place)
+    (j : Joined)
     → IsKept order numbers given p → number_of task order ≡ Some number
     → less ≡ remove_entry (is_at (nat_cmp number)) order → found_from next less ≡ Some j → j.0 < given
 next_given order less numbers given task number next p j k h e f =
@@ -1063,10 +1072,12 @@ round_is ts p = round_by ts p (nat_lt p (length ts)) refl
 
 left_by : (rule : TurnRule) (t : Turns) (task u : ℕ) → (rule ≡ Earlier) ⊎ (rule ≡ Fair) → turn_of t ≡ Some u
     → u ≢ task →
-    turn_of (record { rule = rule; tasks = remove_key (nat_eq task) t.tasks; position = position_left rule task t }) ≡ Some u
+    turn_of (record { rule = rule; tasks = remove_key (nat_eq task) t.tasks; position = position_left rule task t })
+    ≡ Some u
 left_by Earlier t task u r h ne = back_turn Earlier t task u (nat_lt t.position (length t.tasks)) refl h ne
 left_by Fair t task u r h ne =
-    ap (slice_get (remove_key (nat_eq task) t.tasks)) (round_is (remove_key (nat_eq task) t.tasks) (position_back task t))
+    ap (slice_get (remove_key (nat_eq task) t.tasks))
+    (round_is (remove_key (nat_eq task) t.tasks) (position_back task t))
     ∙ back_turn Fair t task u (nat_lt t.position (length t.tasks)) refl h ne
 left_by Twisted t task u (inl r) h ne = absurd cc
 left_by Twisted t task u (inr r) h ne = absurd cc

@@ -10,8 +10,8 @@ use Rattle.dv_script.specs.declared.turn_rule.TurnRule.{TurnRule}
 use Rattle.dv_script.specs.declared.turn_rule.TurnRule.TheVariants.{Earlier, Fair, Twisted}
 use Rattle.dv_clock.specs.declared.place.Place.{Place}
 
--- by which rule a task leaves, the tasks that take turns, in order of joining, and how many of them stand before the one
--- whose turn it is
+-- by which rule a task leaves, the tasks that take turns, in order of joining, and how many of them stand before the
+-- one whose turn it is
 pub record Turns : Type 0 where
   pub rule : TurnRule
   pub tasks : List ℕ

@@ -145,8 +145,8 @@ impl<'s> Cooperators<'s> {
         let _ = one.turns.remove(id);
     }
 
-    /// It is the next one's turn in a Cooperator; if nobody takes turns there, the next turn is that
-    /// of the first that joins.
+    /// It is the next one's turn in a Cooperator; if nobody takes turns there, the next turn is
+    /// that of the first that joins.
     pub fn go_on(&mut self, of: CooperatorId)
         ensures { self.new ≡ with_next_turn of self.old }
     {

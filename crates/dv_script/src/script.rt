@@ -43,8 +43,8 @@ pub struct NamedBody {
 pub struct Script {
     /// The classes of its failures: those that every script has, then those that it declares.
     pub classes: Classes,
-    /// Whether an end of an inline body that fails throws its failure there, where a `try` may catch
-    /// it. Else it leaves the body with the failure.
+    /// Whether an end of an inline body that fails throws its failure there, where a `try` may
+    /// catch it. Else it leaves the body with the failure.
     pub ends_throw: bool,
     /// The most that its journal may weigh, up to 200,000.
     pub limit: u64,

@@ -379,8 +379,8 @@ fn has_ended<'s>(world: &World<'s>, task: TaskId) -> bool
     }
 }
 
-/// Goes on with a tick of a Cooperator: takes a step, while one is left and a task takes turns; else
-/// the next tick is scheduled.
+/// Goes on with a tick of a Cooperator: takes a step, while one is left and a task takes turns;
+/// else the next tick is scheduled.
 pub fn go_on_ticking<'s>(
     turn: &mut Turn<'s>,
     of: CooperatorId,

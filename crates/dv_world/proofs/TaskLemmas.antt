@@ -5,12 +5,14 @@ use Rattle.std.proofs.lemmas.Bool.Decides.{eqb_tells}
 use Rattle.dv_journal.specs.Journal.{fits, with_entry}
 use Rattle.dv_journal.specs.declared.entry.Entry.{Entry}
 use Rattle.dv_journal.specs.declared.entry.Entry.TheVariants as entry
-use Rattle.dv_objects.specs.Cooperator.{Cooperators, new_task, turn_in, with_new_task, with_step, with_pause, with_resume}
+use Rattle.dv_objects.specs.Cooperator.{Cooperators, new_task, turn_in, with_new_task, with_step, with_pause}
+use Rattle.dv_objects.specs.Cooperator.{with_resume}
 use Rattle.dv_objects.specs.Cooperator.{with_end, with_waiting, result_of, unended}
 use Rattle.dv_objects.specs.Objects.{Objects, cooperating}
 use Rattle.dv_world.specs.World.{World, aside, arrange, cooperator_of, task_told, step_taken, turn_taken, task_ended}
 use Rattle.dv_objects.specs.Cooperator.{with_next_turn}
-use Rattle.dv_world.specs.Laws.{end_in, end_of, Same, Elsewhere, Makes, MakesIn, Steps, Pauses, Resumes, Holds, Awaits, Ends}
+use Rattle.dv_world.specs.Laws.{end_in, end_of, Same, Elsewhere, Makes, MakesIn, Steps, Pauses, Resumes, Holds, Awaits}
+use Rattle.dv_world.specs.Laws.{Ends}
 use Rattle.dv_world.specs.Laws.{TasksEndOnce, EndedTasksAreLeftAlone}
 use Rattle.dv_objects.specs.declared.task.Task.{Task}
 use Rattle.dv_objects.specs.declared.task.TaskEnd.{TaskEnd}

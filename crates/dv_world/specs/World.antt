@@ -584,8 +584,8 @@ abbrev pub tick_wanted : ℕ → Option Cooperator → World → World
 tick_wanted k None w = w
 tick_wanted k (Some c) w = if wants_tick_at_once c then schedule_tick k c w else w
 
--- after a task has joined a Cooperator its next tick is scheduled, unless one is, or one is under way; by Twisted's rule
--- also while one is under way
+-- after a task has joined a Cooperator its next tick is scheduled, unless one is, or one is under way; by Twisted's
+-- rule also while one is under way
 abbrev pub want_tick : ℕ → World → World
 want_tick k w = tick_wanted k (cooperator_of k w) w
 

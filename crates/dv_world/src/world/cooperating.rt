@@ -32,8 +32,9 @@ impl<'s> World<'s> {
     ghost use Rattle.dv_world.specs.World.{keep_tick, want_tick, begin_tick, end_tick, set_units};
     ghost use Rattle.dv_world.specs.World.{set_units_in, halt};
 
-    /// Makes a task of bodies in the Cooperator that each script has, and binds its name to it, also
-    /// where that was bound to another; it takes turns, last (Twisted: `Cooperator.cooperate`).
+    /// Makes a task of bodies in the Cooperator that each script has, and binds its name to it,
+    /// also where that was bound to another; it takes turns, last (Twisted:
+    /// `Cooperator.cooperate`).
     #[tactic(auto, unfolding(crate::specs::World::aside))]
     pub fn make_task(&mut self, name: TextRef<'s>, bodies: BodiesRef<'s>) -> Result<(), AllocError>
         ensures { OnOk result (self.new ≡ new_task name.entry bodies.entry self.old) }
@@ -111,8 +112,8 @@ impl<'s> World<'s> {
     }
 
     /// Logs the next step of a Cooperator, and returns the task that takes it with its next body,
-    /// where one is left; None where nobody takes turns, and then the next turn is that of the first
-    /// that joins.
+    /// where one is left; None where nobody takes turns, and then the next turn is that of the
+    /// first that joins.
     #[tactic(auto, unfolding(crate::specs::World::aside, crate::specs::World::arrange))]
     pub fn take_step(
         &mut self,
@@ -236,8 +237,8 @@ impl<'s> World<'s> {
         }
     }
 
-    /// Outside of ticks of a Cooperator, one is scheduled while somebody takes turns in it, and none
-    /// while nobody does (Twisted: `Cooperator._reschedule`).
+    /// Outside of ticks of a Cooperator, one is scheduled while somebody takes turns in it, and
+    /// none while nobody does (Twisted: `Cooperator._reschedule`).
     pub fn keep_tick(&mut self, of: CooperatorId) -> Result<(), AllocError>
         ensures { OnOk result (self.new ≡ keep_tick of self.old) }
     {

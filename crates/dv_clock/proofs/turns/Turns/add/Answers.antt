@@ -24,13 +24,15 @@ invariant_of-self-2 c =
     (sym (ap is_some number) ∙ sym c.contains_key.ensures ∙ c.if-contains_key.false) in
     let joins =
     c.in_ok-join.ensures.ordered ∙ ap (insert_entry nat_cmp order c.self.inside.given) c.number-joining.ensures in
-    let finds = subst (λ (t : ℕ). FindsToo c.self.inside.numbers.entries c.join.new.numbers.entries t c.self.inside.given)
+    let finds =
+    subst (λ (t : ℕ). FindsToo c.self.inside.numbers.entries c.join.new.numbers.entries t c.self.inside.given)
     c.number-joining.ensures c.in_ok-join.ensures.found in
     subst (λ (g : ℕ). IsKept c.join.new.order.entries c.join.new.numbers.entries g c.place_joined-self-inside.result)
     (sym c.in-Some.ensures.1)
     (subst (λ (p : Place). IsKept c.join.new.order.entries c.join.new.numbers.entries (c.self.inside.given + 1) p)
     (sym c.place_joined-self-inside.ensures)
-    (kept_more order c.join.new.order.entries c.self.inside.numbers.entries c.join.new.numbers.entries c.self.inside.given
+    (kept_more order c.join.new.order.entries c.self.inside.numbers.entries c.join.new.numbers.entries
+    c.self.inside.given
     c.args.task c.self.inside.place c.self.invariant none joins c.in_ok-join.ensures.ascends finds))
 
 pub returns-clause-ok : goal.returns-clause-ok

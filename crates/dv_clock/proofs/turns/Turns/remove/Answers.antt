@@ -2,7 +2,8 @@ use Rattle.std.proofs.Common.{◌≡◌, arith, ℕ, true, false, None, cond, na
 use Rattle.std.specs.Map.{lookup}
 use Rattle.dv_clock.specs.Turns.{Turns, IsKept, left, is_among}
 use Rattle.dv_clock.specs.declared.place.Place.{Place}
-use Rattle.dv_clock.proofs.TurnsLemmas.{kept_less, next_given, room_left, seen, seen_less, seen_unmoved, number_is, among_is}
+use Rattle.dv_clock.proofs.TurnsLemmas.{kept_less, next_given, room_left, seen, seen_less, seen_unmoved, number_is}
+use Rattle.dv_clock.proofs.TurnsLemmas.{among_is}
 use Rattle.dv_clock.proofs.turns.Turns.remove.Goals as goal
 
 pub returns-in_default-clause-was : goal.returns-in_default-clause-was
@@ -32,7 +33,8 @@ invariant_of-self-2 c =
     None (lookup (nat_eq other) c.self.inside.numbers.entries)) c.number-leaving.ensures c.in-Some.ensures.updates.0 in
     subst (λ (p : Place). IsKept c.remove-2.new.self.entries c.remove.new.self.entries c.self.inside.given p)
     (sym c.place_left-self-inside.ensures)
-    (kept_less c.self.inside.rule order c.remove-2.new.self.entries c.self.inside.numbers.entries c.remove.new.self.entries
+    (kept_less c.self.inside.rule order c.remove-2.new.self.entries c.self.inside.numbers.entries
+    c.remove.new.self.entries
     c.self.inside.given c.args.task c.in-Some.number c.self.inside.place c.self.invariant found
     c.remove-2.ensures.entries c.remove-2.ensures.ordered loses)
 
