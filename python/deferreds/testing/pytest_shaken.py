@@ -40,7 +40,7 @@ _WHO = "pytest --shake"
 
 
 class Shaking(NamedTuple):
-    """What is asked for: how many runs, by which settings from their seed on, how many seconds each may take, whether it is looked for what a failure needs, into which
+    """The options: how many runs, by which settings from their seed on, how many seconds each may take, whether it is looked for what a failure needs, into which
     folder recordings go, and the words of pytest beside that."""
 
     times: int

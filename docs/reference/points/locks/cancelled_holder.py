@@ -1,6 +1,6 @@
 """Cancelling a Deferred that has the lock doesn't release it.
 
-It has fired, so a cancel does nothing. Only a waiter leaves the line by a cancel. Whoever has the lock has to release it.
+It has fired, so a cancel does nothing. A cancel removes only a Deferred that still waits for the lock. Whoever has the lock has to release it.
 
 Look at the end: `bob` still waits, until `release`.
 """

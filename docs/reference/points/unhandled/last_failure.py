@@ -1,6 +1,6 @@
 """A failure that nothing handles stays in its Deferred.
 
-Each callback is skipped, and there is no errback. Nobody is told: the code that fired it goes on, and so does the program.
+Each callback is skipped, and there is no errback. Nothing is raised: the code that fired it goes on, and so does the program.
 
 Look at the last line. A `fail` there is an error that nobody has handled.
 

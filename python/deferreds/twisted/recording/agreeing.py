@@ -63,7 +63,7 @@ def program() -> Optional[Program]:
 
 
 def facts_of(said: Said) -> Optional[str]:
-    """What the program prints of the script as JSON: all that a journal doesn't say, as the children of lists. None if it can't be had."""
+    """The run of the script as JSON, by the program: all that a journal doesn't say, as the children of lists. None if it can't be had."""
     try:
         answer = Once([os.fspath(built()), "--json"], False, _SECONDS).answer(said.text)
     except (NotRun, Broken, OSError, MemoryError):

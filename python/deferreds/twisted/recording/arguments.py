@@ -1,4 +1,4 @@
-"""What inline bodies and coroutines were called with, as texts in bounded room."""
+"""The arguments of inline bodies and coroutines, as texts in bounded room."""
 
 from __future__ import annotations
 

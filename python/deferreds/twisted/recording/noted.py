@@ -29,7 +29,7 @@ _MISSING = object()
 
 
 class Code:
-    """What is known of the code of a function: its file, whether that is the program's own, or one of a loop that runs what is due, and its name."""
+    """The code of a function: its file, whether that is the program's own, or one of a loop that runs what is due, and its name."""
 
     def __init__(self, file: str, path: str, is_own: bool, is_running: bool, name: str) -> None:
         self.co_filename = file

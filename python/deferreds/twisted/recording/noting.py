@@ -611,7 +611,7 @@ class Noting:
             self._spot(made_at)
 
     def _note_call(self, call: Call) -> None:
-        """What an inline body was called with, if its action is in the notes."""
+        """The arguments of an inline body, if its action is in the notes."""
         if call.action.noted_as >= 0:
             self._out += (int(Word.CALLED), call.action.noted_as, call.function, len(call.arguments))
             for name, value in call.arguments:

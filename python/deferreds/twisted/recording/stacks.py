@@ -40,7 +40,7 @@ class Stacks:
         return self._stack(self._lines.get(id(action)), self._around.get(id(action)))
 
     def of_record(self, record: Record) -> Stack:
-        """That of a Deferred where it was made."""
+        """The stack in which a Deferred was made."""
         made_in = record.made_in
         return self._stack(self._lines.get(id(record)), None if made_in is None else self._around.get(id(made_in)))
 
