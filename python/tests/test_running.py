@@ -135,15 +135,21 @@ class Printed(unittest.TestCase):
             #0 d ok "l\"""",
         )
 
-    def test_a_failure_of_an_end_leaves_an_inline_body_past_its_tries(self) -> None:
+    def test_a_failure_of_an_end_is_caught_from_version_3_on(self) -> None:
+        raised = ["try", [["end", ["raise", "ValueError", "x"]]], ["Exception"], [["end", ["pass"]]]]
+        for version, outcome in ((1, 'fail ValueError "x"'), (2, 'fail ValueError "x"'), (3, "ok null")):
+            with self.subTest(version=version):
+                run_ = ran(["inline", "d", [raised]], version=version)
+                self.assertEqual(run_.outcomes, [f"#0 d {outcome}"])
+
+    def test_what_a_caller_of_an_inline_body_handles_is_not_active_in_it(self) -> None:
         run_ = ran(
-            [
-                "inline",
-                "d",
-                [["try", [["end", ["raise", "ValueError", "x"]]], ["Exception"], [["end", ["pass"]]]]],
-            ]
+            ["deferred", "a"],
+            ["inline", "d", [["await", "a"], ["raise"]]],
+            ["inline", "e", [["try", [["await", "z"]], ["NameError"], [["do", ["callback", "a", 1]]]]]],
+            version=3,
         )
-        self.assertEqual(run_.outcomes, ['#0 d fail ValueError "x"'])
+        self.assertIn('#1 d fail RuntimeError "no active exception"', run_.outcomes)
 
     def test_results_of_jobs_come_at_their_times(self) -> None:
         run_ = ran(

@@ -152,5 +152,6 @@ occurrences callers (event.Drain most ∷ events) batches =
 -- a script leads, where these batches of posts are taken, from a world in which nothing is made to this one
 abbrev pub Leads : Script → List Batch → World → Type 0
 Leads script batches after =
-    let first = first_world script.classes script.bodies script.limit script.cooperator script.cooperators in
+    let first =
+    first_world script.classes script.bodies script.ends_throw script.limit script.cooperator script.cooperators in
     Returns (λ go. all_happen go (occurrences script.callers script.events batches) first) after

@@ -9,4 +9,5 @@ pub mod lent;
 pub mod limits;
 pub mod same;
 pub mod script;
+pub mod turn_rule;
 pub mod work;
