@@ -33,7 +33,7 @@ use Rattle.dv_script.specs.declared.action.Action.{Action}
 use Rattle.dv_script.specs.declared.action.Action.TheOpen.{Action-F}
 use Rattle.dv_script.specs.declared.body.Body.{Body}
 use Rattle.dv_script.specs.declared.body.End.{End}
-use Rattle.dv_script.specs.declared.expected.Expected.{Expected}
+use Rattle.dv_value.specs.declared.expected.Expected.{Expected}
 use Rattle.dv_script.specs.declared.work.Work.{Work}
 use Rattle.dv_store.specs.declared.store.Step.TheVariants.{Handed}
 use Rattle.dv_value.specs.Builtin.{name_error}
@@ -181,4 +181,4 @@ FailuresOfCallsAreTold =
 abbrev pub UnmetRunsEnd : Type 0
 UnmetRunsEnd =
     (d : ℕ) (expected : Expected) (w : World) → is_met expected (state_at d w) ≡ false
-    → run (judge d expected) w ≡ ([], Done, world.with_stop (world.tell (entry.Unmet d (state_at d w)) w))
+    → run (judge d expected) w ≡ ([], Done, world.with_stop (world.tell (entry.Unmet d (state_at d w) expected) w))

@@ -21,8 +21,8 @@ use Rattle.dv_script.specs.declared.action.Action.{Cooperate, WhenDone, PauseTas
 use Rattle.dv_script.specs.declared.action.Action.{ThreadIn, Units, CooperateIn, UnitsIn, StopCooperator}
 use Rattle.dv_script.specs.declared.event.Event.{Event}
 use Rattle.dv_script.specs.declared.event.Event.TheVariants as happens
-use Rattle.dv_script.specs.declared.expected.Expected.{Expected}
-use Rattle.dv_script.specs.declared.expected.Expected.TheVariants as expected
+use Rattle.dv_value.specs.declared.expected.Expected.{Expected}
+use Rattle.dv_value.specs.declared.expected.Expected.TheVariants as expected
 use Rattle.dv_script.specs.declared.script.Cooperator.{Cooperator}
 use Rattle.dv_script.specs.declared.script.NamedBody.{NamedBody}
 use Rattle.dv_script.specs.declared.script.NamedCooperator.{NamedCooperator}

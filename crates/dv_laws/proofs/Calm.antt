@@ -774,8 +774,8 @@ step_quiet (steps.TellPost caller index) w m =
 step_quiet (steps.TellMet d state) w m =
     by_aside (entry.Expect d state) _ w refl (tt, tt) (λ k. Leaves (refl, refl, refl)) (λ k. k)
     (resting _ _ _ refl refl refl refl refl refl refl refl refl) refl
-step_quiet (steps.TellUnmet d state) w m =
-    by_aside (entry.Unmet d state) _ w refl (tt, tt) (λ k. Leaves (refl, refl, refl)) (λ k. k)
+step_quiet (steps.TellUnmet d state expected) w m =
+    by_aside (entry.Unmet d state expected) _ w refl (tt, tt) (λ k. Leaves (refl, refl, refl)) (λ k. k)
     (resting _ _ _ refl refl refl refl refl refl refl refl refl) refl
 step_quiet (steps.TellUnbound name) w m =
     by_aside (entry.Unbound name) _ w refl (tt, tt) (λ k. Leaves (refl, refl, refl)) (λ k. k)

@@ -6,7 +6,7 @@ use Rattle.dv_value.specs.declared.value.Value.{Value, Text}
 use Rattle.dv_journal.specs.declared.entry.Entry.TheVariants as entry
 use Rattle.dv_prims.specs.Tokens.{Semaphore, is_unheld, first_waiting}
 use Rattle.dv_prims.specs.declared.gather.Flags.{Flags}
-use Rattle.dv_script.specs.declared.expected.Expected.{Expected}
+use Rattle.dv_value.specs.declared.expected.Expected.{Expected}
 use Rattle.dv_script.specs.declared.action.Action.{Action, out-Action}
 use Rattle.dv_script.specs.declared.action.Action.TheOpen.{Action-F}
 use Rattle.dv_clock.specs.declared.due.Due.{Due}

@@ -261,7 +261,7 @@ step_comes (Advance ticks) w = by_aside (entry.Advance _) _ w refl
 step_comes TellDrain w = by_aside entry.Drain _ w refl
 step_comes (TellPost caller index) w = by_aside (entry.Post caller index) _ w refl
 step_comes (TellMet d state) w = by_aside (entry.Expect d state) _ w refl
-step_comes (TellUnmet d state) w = by_aside (entry.Unmet d state) _ w refl
+step_comes (TellUnmet d state expected) w = by_aside (entry.Unmet d state expected) _ w refl
 step_comes (TellUnbound name) w = by_aside (entry.Unbound name) _ w refl
 step_comes StopRun w = record { keeps = λ R l. l.by_stop w }
 step_comes (Put d v) w = record { keeps = λ R l. l.by_put d v w }

@@ -4,7 +4,6 @@
 pub mod action;
 pub mod body;
 pub mod event;
-pub mod expected;
 pub mod lent;
 pub mod limits;
 pub mod same;

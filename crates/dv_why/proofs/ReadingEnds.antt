@@ -12,8 +12,8 @@ use Rattle.dv_script.specs.declared.body.End.TheVariants.{Return, Pass, Plus, Ra
 use Rattle.dv_script.specs.declared.body.Body.{Body}
 use Rattle.dv_script.specs.declared.work.Work.{Work}
 use Rattle.dv_script.specs.declared.work.Work.TheVariants as job_of
-use Rattle.dv_script.specs.declared.expected.Expected.{Expected}
-use Rattle.dv_script.specs.declared.expected.Expected.TheVariants as expected
+use Rattle.dv_value.specs.declared.expected.Expected.{Expected}
+use Rattle.dv_value.specs.declared.expected.Expected.TheVariants as expected
 use Rattle.dv_script.specs.declared.limits.TheConstants.{MOST_PLACE, MOST_SUM}
 use Rattle.dv_forms.specs.Forms.{IsNumber, IsClass}
 use Rattle.dv_forms.specs.Leaving.{may_leave}
