@@ -191,6 +191,14 @@ class OwnThread:
 State = Union[Outcome, Sequence[str]]
 
 
+def _is_met(wanted: Union[Outcome, str], state: State) -> bool:
+    """Whether a Deferred of this state is as it is expected to be."""
+    if not isinstance(state, Outcome):
+        return state[0] == wanted
+    # (by what both show: what a waiter has is the lock itself, which is shown as the text of its name)
+    return isinstance(wanted, Outcome) and state.text == wanted.text
+
+
 def _state_of(deferred: Deferred[Any], teller: Teller) -> State:
     """What has become of a Deferred, read off Twisted's own object."""
     if not deferred.called:
@@ -353,8 +361,9 @@ class Player:
         state = _state_of(deferred, self.teller)
         shown: Part = state if isinstance(state, Outcome) else " ".join(state)
         record = self.teller.record(deferred)
-        if not self._is_met(expected, state):
-            self._end_unmet("unmet ", record, " ", shown)
+        wanted = self._wanted(expected)
+        if not _is_met(wanted, state):
+            self._end_unmet("unmet ", record, " ", shown, " expected ", wanted)
         self.teller.tell("expect ", record, " ", shown)
 
     def _end_unmet(self, *parts: Part) -> NoReturn:
@@ -363,15 +372,11 @@ class Player:
         self.teller.end()
         raise Unmet
 
-    def _is_met(self, expected: List[Any], state: "State") -> bool:
-        """Whether a Deferred of this state is as it is expected to be."""
-        if not isinstance(state, Outcome):
-            return str(expected[0]) == state[0]
+    def _wanted(self, expected: List[Any]) -> Union[Outcome, str]:
+        """What a script expects, as a line shows it."""
         if expected[0] not in ("ok", "fail"):
-            return False
-        value = self._value(expected[1]) if expected[0] == "ok" else self._failure(expected[1])
-        # (by what both show: what a waiter has is the lock itself, which is shown as the text of its name)
-        return state.text == self.teller.texts.outcome(value).text
+            return str(expected[0])
+        return self.teller.texts.outcome(self._value(expected[1]) if expected[0] == "ok" else self._failure(expected[1]))
 
     def _telling(self, happen: Callable[[], object]) -> None:
         """What fails here is logged, and the run goes on."""

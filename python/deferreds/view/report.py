@@ -160,11 +160,14 @@ class Report:
 
     def _unmet(self, row: Row) -> List[Phrase]:
         """What was expected of a Deferred, and what it is; or that its name is bound to none."""
-        expected = self._script.expected(row.event) if row.event is not None else ""
+        expected = row.entry.expected
+        if row.entry.word == "unbound" and row.event is not None:
+            expected = self._script.expected(row.event)
         what = words(", and ", OfScript(expected), " was expected") if expected else words()
         if row.entry.word == "unbound":
             return [("no Deferred has the name ", OfScript(row.entry.line[row.entry.head :]), *what)]
-        return [(OfDeferred(row.entry.deferred), " is ", OfScript(row.entry.line[row.entry.head :]), *what)]
+        is_now = row.entry.line[row.entry.head :].removesuffix(f" expected {row.entry.expected}")
+        return [(OfDeferred(row.entry.deferred), " is ", OfScript(is_now), *what)]
 
     def _missing(self) -> str:
         """What a text that was cut off lacks: outcomes, or only what comes after them."""
