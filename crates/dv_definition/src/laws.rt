@@ -42,8 +42,9 @@ pub fn frames_say_the_rule()
     ensures happens { FramesSayWhatHappens }
 {}
 
-/// What a rule leaves in the telling case of each section of the page, worked out by hand: so that
-/// a rule that is changed by mistake is refused here.
+/// A rule leaves what was worked out by hand in the telling case of its section of the page. A change
+/// that shows in that case is refused here. Each section has one case; resets, units and bodies by
+/// name have none.
 pub fn rules_decide_their_cases()
     ensures deferreds { PairsAreUsed }
     ensures cancelling { CancelsReachChildren }
