@@ -43,7 +43,7 @@ pub fn frames_say_the_rule()
 {}
 
 /// A rule leaves what was worked out by hand in the telling case of its section of the page. A change
-/// that shows in that case is refused here. Each section has one case; resets, units and bodies by
+/// that shows in that case is refused here. Each section has one or more; resets, units and bodies by
 /// name have none.
 pub fn rules_decide_their_cases()
     ensures deferreds { PairsAreUsed }
