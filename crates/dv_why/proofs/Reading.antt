@@ -9,8 +9,6 @@ use Rattle.serde_json.specs.Data.{Data, string, array, object, Items, no_items, 
 use Rattle.serde_json.specs.Data.{depth}
 use Rattle.serde_json.specs.Find.{at, get_item, get_member}
 use Rattle.dv_value.specs.declared.classes.Class.{Class}
-use Rattle.dv_script.specs.declared.body.Body.{Body}
-use Rattle.dv_script.specs.declared.action.Action.{Action}
 use Rattle.dv_script.specs.declared.event.Event.{Event}
 use Rattle.dv_script.specs.declared.event.Event.TheVariants as happens
 use Rattle.dv_script.specs.declared.script.Cooperator.{Cooperator}
@@ -29,7 +27,7 @@ use Rattle.dv_grammar.specs.Grammar.{keys_of, plain_cooperator, usual_turns, IsT
 use Rattle.dv_script.specs.declared.turn_rule.TurnRule.{TurnRule}
 use Rattle.dv_forms.specs.declared.versions.TheConstants.{RULES_SINCE}
 use Rattle.dv_why.proofs.Fine.{turn_rule_of}
-use Rattle.dv_grammar.specs.Grammar.{IsBody, body}
+use Rattle.dv_grammar.specs.Grammar.{IsBody}
 use Rattle.dv_grammar.specs.Grammar.{acts, advances, drains, expects, IsDeclaration, declares, IsPool, pools}
 use Rattle.dv_grammar.specs.Grammar.{repeated, IsListed, one_event, repeats, AreListed, no_events, more_events}
 use Rattle.dv_grammar.specs.Grammar.{AreEvents}
@@ -43,7 +41,6 @@ use Rattle.dv_forms.specs.declared.want.Want.{Want}
 use Rattle.dv_forms.specs.declared.want.Want.TheVariants as want
 use Rattle.dv_forms.specs.declared.want.Leaf.TheVariants as leaf
 use Rattle.dv_forms.specs.declared.want.CallKind.TheVariants as call_of
-use Rattle.dv_forms.specs.declared.want.Keyed.{Keyed}
 use Rattle.dv_forms.specs.declared.want.Keyed.TheVariants as keyed
 use Rattle.dv_forms.specs.declared.want.Item.{Item}
 use Rattle.dv_forms.specs.declared.want.Item.TheVariants as item_of

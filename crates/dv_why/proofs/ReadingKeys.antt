@@ -12,8 +12,6 @@ use Rattle.std.proofs.lemmas.Slice.Eq.{bytes_eq-Decides}
 use Rattle.serde_json.specs.Data.{Data, object, Members}
 use Rattle.serde_json.specs.Data.{no_members, member}
 use Rattle.serde_json.specs.Find.{as_str, get_member}
-use Rattle.dv_script.specs.declared.body.Body.{Body}
-use Rattle.dv_script.specs.declared.script.Cooperator.{Cooperator}
 use Rattle.dv_forms.specs.Forms.{has_only, is_comment, is_keyed_by}
 use Rattle.dv_grammar.specs.Grammar.{body_keys, cooperator_keys, keys_of}
 use Rattle.dv_forms.specs.declared.versions.TheConstants.{BODIES_SINCE, COMMENTS_SINCE, RULES_SINCE}
