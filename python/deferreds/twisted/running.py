@@ -829,10 +829,11 @@ class Player:
 
     def _made(self, make: Callable[[], object], failure: str, inside: Collection[str]) -> object:
         """What an `end` returns. A failure is counted, for each word in whose first statements it stands."""
-        with contextlib.ExitStack() as counting:
-            for word in inside:
-                counting.enter_context(self._counting(f"{failure} {word}"))
+        try:
             return make()
+        except Exception:
+            self._seen.update(f"{failure} {word}" for word in inside)
+            raise
 
     def _need_active(self, word: str) -> None:
         """Raises RuntimeError where the body handles no exception. Python would take one that a caller handles."""
@@ -856,7 +857,7 @@ class Player:
         return (yield from self._statements(statements, body))
 
     def _try(self, statement: List[Any], body: _Inline) -> _Running:
-        classes = tuple(self.teller.classes.get(name) for name in statement[2])
+        classes = tuple(self.teller.classes.named(name) for name in statement[2])
         try:
             return (yield from self._first(statement, body))
         except classes:
