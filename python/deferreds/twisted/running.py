@@ -757,31 +757,28 @@ class Player:
     def _inline_body(
         self, statements: List[Any], mine: List[Deferred[Any]]
     ) -> Generator[Deferred[Any], Any, Any]:
-        """The generator of an inline body.
+        """The generator of an inline body, in which what its caller handles isn't active.
 
         The generators in it are never thrown at: what those around one handle isn't active in it then, until Python goes on in them.
         """
         self._seen["inline"] += 1
-        running = self._own(statements, _Inline(mine[0]))
+        running = self._statements(statements, _Inline(mine[0]))
         answer: Optional[_Answer] = None
-        while True:
-            try:
-                awaited = next(running) if answer is None else running.send(answer)
-            except StopIteration as over:
-                leaving: Optional[_Leaving] = over.value
-                break
-            try:
-                answer = (None, (yield awaited))
-            except Exception as error:
-                answer = (error, None)
-        return None if leaving is None else leaving.result()
-
-    def _own(self, statements: List[Any], body: _Inline) -> _Running:
-        """All statements of a body, to which what its caller handles isn't active."""
+        leaving: Optional[_Leaving] = None
         try:
             raise _NoneOfItsOwn
         except _NoneOfItsOwn:
-            return (yield from self._statements(statements, body))
+            while True:
+                try:
+                    awaited = next(running) if answer is None else running.send(answer)
+                except StopIteration as over:
+                    leaving = over.value
+                    break
+                try:
+                    answer = (None, (yield awaited))
+                except Exception as error:
+                    answer = (error, None)
+        return None if leaving is None else leaving.result()
 
     def _statements(self, statements: List[Any], body: _Inline) -> _Running:
         for statement in statements:
