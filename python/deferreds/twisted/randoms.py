@@ -160,7 +160,7 @@ class Scripts:
     def some(self, number: int, version: Optional[int] = None, turns: Optional[str] = None) -> Iterator[Tuple[int, str]]:
         """So many scripts, each with its own number: the first ones, or the first of a version that the level has.
 
-        `turns`: only scripts with tasks, all of which take turns by this rule.
+        `turns`: only scripts whose tasks, if they have any, all take turns by this rule.
         """
         numbered = ((each, self.script(each)) for each in count())
         fitting = (pair for pair in numbered if version is None or f'"version":{version},' in pair[1])

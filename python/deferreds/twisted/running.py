@@ -762,31 +762,28 @@ class Player:
     def _inline_body(
         self, statements: List[Any], mine: List[Deferred[Any]]
     ) -> Generator[Deferred[Any], Any, Any]:
-        """The generator of an inline body.
+        """The generator of an inline body, in which what its caller handles isn't active.
 
         The generators in it are never thrown at: what those around one handle isn't active in it then, until Python goes on in them.
         """
         self._seen["inline"] += 1
-        running = self._own(statements, _Inline(mine[0]))
+        running = self._statements(statements, _Inline(mine[0]))
         answer: Optional[_Answer] = None
-        while True:
-            try:
-                awaited = next(running) if answer is None else running.send(answer)
-            except StopIteration as over:
-                leaving: Optional[_Leaving] = over.value
-                break
-            try:
-                answer = (None, (yield awaited))
-            except Exception as error:
-                answer = (error, None)
-        return None if leaving is None else leaving.result()
-
-    def _own(self, statements: List[Any], body: _Inline) -> _Running:
-        """All statements of a body, to which what its caller handles isn't active."""
+        leaving: Optional[_Leaving] = None
         try:
             raise _NoneOfItsOwn
         except _NoneOfItsOwn:
-            return (yield from self._statements(statements, body))
+            while True:
+                try:
+                    awaited = next(running) if answer is None else running.send(answer)
+                except StopIteration as over:
+                    leaving = over.value
+                    break
+                try:
+                    answer = (None, (yield awaited))
+                except Exception as error:
+                    answer = (error, None)
+        return None if leaving is None else leaving.result()
 
     def _statements(self, statements: List[Any], body: _Inline) -> _Running:
         for statement in statements:
@@ -834,10 +831,11 @@ class Player:
 
     def _made(self, make: Callable[[], object], failure: str, inside: Collection[str]) -> object:
         """What an `end` returns. A failure is counted, for each word in whose first statements it stands."""
-        with contextlib.ExitStack() as counting:
-            for word in inside:
-                counting.enter_context(self._counting(f"{failure} {word}"))
+        try:
             return make()
+        except Exception:
+            self._seen.update(f"{failure} {word}" for word in inside)
+            raise
 
     def _need_active(self, word: str) -> None:
         """Raises RuntimeError where the body handles no exception. Python would take one that a caller handles."""
@@ -861,7 +859,7 @@ class Player:
         return (yield from self._statements(statements, body))
 
     def _try(self, statement: List[Any], body: _Inline) -> _Running:
-        classes = tuple(self.teller.classes.get(name) for name in statement[2])
+        classes = tuple(self.teller.classes.named(name) for name in statement[2])
         try:
             return (yield from self._first(statement, body))
         except classes:
