@@ -180,17 +180,16 @@ end_added (Ok x) batches journal stopped time a b c told work =
     let member = batches_member batches in
     record {
       line = member ++ work.after ++ last;
-      grew = text_next a b c (member ++ work.after) last work.grew told
-          ∙ ap (λ (l : List ℕ). a ++ l) (append_assoc member work.after last);
+      grew = text_next a b c (member ++ work.after) last work.grew told;
       is_line = record {
         between = work.after;
         time = time;
         is = refl;
         visible =
-            visible_both member (work.after ++ last) (visible_member batches)
-            (visible_both work.after last work.visible
+            visible_both (member ++ work.after) last
+            (visible_both member work.after (visible_member batches) work.visible)
             (visible_totals journal.limit (ending_of stopped journal.entries) (length journal.entries) time
-            (total_weight journal.entries)));
+            (total_weight journal.entries));
       };
     }
 end_added (Err e) batches journal stopped time a b c told work = tt
