@@ -322,7 +322,12 @@ class Inferred:
         found = getters(self._fold, self._bodies, queue)
         if len(found) > _MOST_HELD:
             return []
-        return [words(*self.body(body), *self._made(body), f" got {several(count, 'value', 'values')} of it") for body, count in found.items()]
+        return [words(*self.body(body), *self._made(body), f" got {several(len(got), 'value', 'values')} of it", *self._stopped(body, got[-1])) for body, got in found.items()]
+
+    def _stopped(self, body: int, last: str) -> Phrase:
+        """After which value of a queue a body ended, if it has: a worker may end by a value."""
+        fired = self._fold.records[body].fired
+        return words(", and ended in ", OfLine(fired), ", after the last one: ", OfScript(last)) if fired is not None else words()
 
     def not_returned(self) -> List[Finding]:
         """The Deferreds that callbacks didn't return, a row for each line of the program."""
