@@ -62,8 +62,8 @@ _CAUSES = {
     ),
     "warehouse": Cause(
         Kind.ODD,
-        ["was unfired for 1.", "order(number=7, town='Ripon'", "17 were made there: 15 ok, 1 cancelled, 1 fail", "order_103_7), made at warehouse.py:103, awaited it at warehouse.py:67", "a guess"],
-        {"wire.py:33": "defer.Deferred()", "warehouse.py:103": "shop.order(", "warehouse.py:67": 'await self.warehouse.ask("reserve"'},
+        ["was unfired for 1.", "order(number=7, town='Ripon'", "17 were made there: 15 ok, 1 cancelled, 1 fail", "order_103_7), made at warehouse.py:103, awaited it at warehouse.py:67", "the others were fired at wire.py:41 (15), wire.py:43 (1)", "a guess"],
+        {"wire.py:41": "answer.callback(", "wire.py:43": "answer.errback(", "wire.py:33": "defer.Deferred()", "warehouse.py:103": "shop.order(", "warehouse.py:67": 'await self.warehouse.ask("reserve"'},
     ),
     "stock_levels": Cause(
         Kind.OVERTAKEN,

@@ -5,6 +5,7 @@ What each says is exact, unless it says otherwise; that it is the cause is a gue
 
 from __future__ import annotations
 
+from collections import Counter
 from typing import Callable, Dict, List, Optional, Sequence, Set, Tuple
 
 from .after_cancel import WentOn, went_on
@@ -217,6 +218,15 @@ class Inferred:
         site = self.sites.of.get(record.number)
         return [(self._others(site.among),)] if site is not None and record.number in self.sites.odd else []
 
+    def others_fired(self, record: Record) -> List[Phrase]:
+        """Which lines of the program fired the others of the line that made an odd Deferred: what should have fired that one may stand there."""
+        if record.number not in self.sites.odd:
+            return []
+        others = [one for one in self.sites.of[record.number].among.records if one.fired is not None and one.cancelled is None]
+        places = Counter(place for one in others for place in [self._row_places.of(self._fold.rows[one.fired or 0])] if place is not None)
+        said = [part for place, count in places.most_common(_MOST_HELD) for part in words(", ", OfPlace(place), f" ({count})")]
+        return [words("the others were fired at ", *said[1:])] if said else []
+
     def _others(self, site: Site) -> str:
         median = said_of(site.median, self._tick)
         return f"{len(site.records)} were made there: {site.said}; half were unfired for at most {median}"
@@ -234,7 +244,7 @@ class Inferred:
         said = words(OfDeferred(record.number), f" was unfired for {said_of(self.sites.unfired(record), self._tick)}, and then cancelled")
         cancelled = words(*self.cancelled_in(record.cancelled or 0), *in_whom(self._fold.said_by(self._fold.rows[record.cancelled or 0].actor)))
         guess = words("a guess, since it is odd among these: ", self._others(site.among))
-        details = details_of(self.made_at(record), [guess], self._waiters(record), self.again(record), [cancelled])
+        details = details_of(self.made_at(record), [guess], self.others_fired(record), self._waiters(record), self.again(record), [cancelled])
         return Finding(Severity.LIKELY, Kind.ODD, said, details, record.row)
 
     def cancelled_in(self, row: int) -> Phrase:

@@ -264,6 +264,7 @@ class Report:
             self._inferred.made_at(record),
             self._inferred.called(record),
             self._inferred.among(record),
+            self._inferred.others_fired(record),
             [places],
             stopped,
             [(pairs,)] if record.pairs else [],
