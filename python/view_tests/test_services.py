@@ -72,7 +72,7 @@ _CAUSES = {
     ),
     "mailer": Cause(
         Kind.GETTER,
-        ["1 waits for a value", "the inline body of #2·work_26", "#2·work_26, made at mailer.py:26, got 3 values of it", "#6·work_30, made at mailer.py:30, got 3 values of it, and ended in line ", ", after the last one: null"],
+        ["1 Deferred waits for a value", "the inline body of #2·work_26", "#2·work_26, made at mailer.py:26, got 3 values of it", "#6·work_30, made at mailer.py:30, got 3 values of it, and ended in line ", ", after the last one: null"],
         {"mailer.py:35": "self.letters.get()", "mailer.py:26": "self.work()", "mailer.py:30": "self.work()"},
     ),
     "transfers": Cause(

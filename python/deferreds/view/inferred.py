@@ -243,7 +243,7 @@ class Inferred:
     def _odd(self, record: Record, site: Site) -> Finding:
         said = words(OfDeferred(record.number), f" was unfired for {said_of(self.sites.unfired(record), self._tick)}, and then cancelled")
         cancelled = words(*self.cancelled_in(record.cancelled or 0), *in_whom(self._fold.said_by(self._fold.rows[record.cancelled or 0].actor)))
-        guess = words("a guess, since it is odd among these: ", self._others(site.among))
+        guess = words("a guess, since ", self._others(site.among))
         details = details_of(self.made_at(record), [guess], self.others_fired(record), self._waiters(record), self.again(record), [cancelled])
         return Finding(Severity.LIKELY, Kind.ODD, said, details, record.row)
 
