@@ -140,7 +140,7 @@ class OfJournals(unittest.TestCase):
             [
                 "token 1 of 1 token of l is held (line 3) | taken 1 time, released 0 times | held for #0·a since line 3"
                 " | #1·b waits for a token of l",
-                "getter 1 waits for a value of q, and nothing is put (line 7) | #2·c waits for a value of q",
+                "getter 1 Deferred waits for a value of q, and nothing is put (line 7) | #2·c waits for a value of q",
             ],
         )
 

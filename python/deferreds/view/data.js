@@ -53,7 +53,10 @@ function names(row, number) {
 const deferreds = new Map(), columns = data.deferreds, allNames = columns.names.split("\n"), written = columns.written.split("\n"), read = new Map();
 columns.numbers.forEach((number, place) => { deferreds.set(number, place); });
 function endOf(number) { return deferreds.has(number) ? columns.ends[deferreds.get(number)] : -1; }
-function nameOf(number) { return deferreds.has(number) ? allNames[deferreds.get(number)].split(", ", 1)[0] : ""; }
+function nameOf(number) {
+  const names = deferreds.has(number) ? allNames[deferreds.get(number)] : "", end = names.indexOf(", ");
+  return end < 0 ? names : names.slice(0, end);
+}
 function deferredOf(number) {
   let one = read.get(number);
   if (one === undefined) read.set(number, one = readDeferred(number, deferreds.get(number)));

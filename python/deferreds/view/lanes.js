@@ -126,7 +126,7 @@ function charactersOf(kind, row) {
   const place = eventPlaces.has(row) ? placeText(eventPlaces.get(row)).length + 2 : 0;
   if (kind === HEAD) return 0.95 * (heads.get(row).length + place);
   if (kind !== LINE) return 0;
-  const named = namesOf(row).reduce((sum, number) => sum + (deferreds.has(number) ? nameOf(number).length + 1 : 0), 0);
+  const named = namesOf(row).reduce((sum, number) => sum + nameOf(number).length + 1, 0);
   const after = tails.has(row) ? Math.min(tails.get(row).length, 40) + place : 0;
   return lines[row - first].length + named + 2.3 * Math.min(depthOf(row), DEEPEST) + (causes.has(row) ? 30 : 0) + 0.95 * after;
 }

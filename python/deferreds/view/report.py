@@ -267,6 +267,7 @@ class Report:
             self._inferred.made_at(record),
             self._inferred.called(record),
             self._inferred.among(record),
+            self._inferred.others_fired(record),
             [places],
             stopped,
             [(pairs,)] if record.pairs else [],
@@ -340,7 +341,7 @@ class Report:
         queue = self._fold.world.queues.at(one.number)
         if queue is None:
             return None
-        waits = several(len(one.waiting), "waits", "wait")
+        waits = several(len(one.waiting), "Deferred waits", "Deferreds wait")
         said: Phrase = (f"{waits} for a value of {queue.name}, and nothing is put",)
         made, got = self._inferred.thing_made_at(queue.name), self._inferred.getters(queue)
         return Finding(Severity.LEFT, Kind.GETTER, said, details_of(made, got, self._held(Root(At.QUEUE, one.number))), queue.row)
