@@ -113,7 +113,7 @@ class LawfulTest(unittest.TestCase):
 class FastTest(unittest.TestCase):
     """Programs that wait for long, with a clock that jumps: each knows in which order what it waits for has to come."""
 
-    #: how many seconds each leaves out at least, and why it waits otherwise
+    #: how many seconds pass in each at least, nearly all of them left out, and why it waits otherwise
     WAITS: Dict[str, Tuple[float, Sequence[str]]] = {
         "child_first": (35, ["a process runs"]),
         "connection": (9.9, ["port 1 made at connection.py:29", "connection 1 made at connection.py:30", "connection 1 accepted by port 1"]),
@@ -129,7 +129,9 @@ class FastTest(unittest.TestCase):
         for one, ran in zip(asked, shaken(asked)):
             least, reasons = self.WAITS[one.path.stem]
             self.assertEqual(ran.status, 0, (one, ran))
-            self.assertGreater(ran.skipped, least, (one, ran))
+            # (what the program itself takes passes too, and isn't left out: a busy machine shows that)
+            self.assertGreater(ran.skipped + ran.seconds, least, (one, ran))
+            self.assertGreater(ran.skipped, 0.9 * least, (one, ran))
             self.assertLess(ran.seconds, least, (one, ran))
             self.assertEqual(bool(ran.waited), bool(reasons), (one, ran))
             self.assertTrue(all(why.startswith(tuple(reasons)) for why in ran.waited), (one, ran))
