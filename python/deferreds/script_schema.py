@@ -2,8 +2,8 @@
 
 An editor that has it completes and checks a script while it is typed. It says what the program refuses as BadShape, BadName and
 TooMany, as far as a schema can. Left to the program are: which names are bound or declared; that `1.0` is no integer; words,
-comments of bodies, names in place of bodies, failures in values and marks in names that the version of the script doesn't have;
-all advances together; the size of the whole text.
+comments of bodies, keys of Cooperators, names in place of bodies, failures in values and marks in names that the version of the script
+doesn't have; all advances together; the size of the whole text.
 """
 
 from __future__ import annotations

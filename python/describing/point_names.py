@@ -46,7 +46,7 @@ def wanted_name(name: str, variables: Mapping[int, str], made_at: Optional[int])
     if matched is None:
         return None
     kind, function = matched["kind"], matched["function"]
-    if kind in ("loop", "pool", "task"):  # (the line has the name of its Deferred)
+    if kind in ("loop", "pool"):  # (the line has the name of its Deferred)
         return str(kind)
     variable = variables.get(made_at or int(matched["line"]))
     if variable is not None or kind is not None:

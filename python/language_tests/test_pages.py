@@ -31,6 +31,7 @@ _SHOWN: Dict[str, str] = {
     "failure": 'CLASS "MESSAGE"',
     "text": "TEXT",
     "state": "STATE",
+    "expected": "expected WANTED",
 }
 
 

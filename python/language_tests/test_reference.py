@@ -115,7 +115,7 @@ class OfNames(unittest.TestCase):
         for name, made_at, wanted in (
             ("line_3", None, "answer"), ("line_3_2", None, "answer"), ("line_4", None, None), ("fetch_4", None, "fetch"),
             ("call_line_4", None, "call"), ("call_line_3", None, "answer"), ("lock_line_9", 3, "answer"), ("loop_line_3", None, "loop"),
-            ("pool_line_3", None, "pool"), ("own", None, None),
+            ("pool_line_3", None, "pool"), ("task_line_3", None, "answer"), ("task_line_4", None, "task"), ("own", None, None),
         ):
             self.assertEqual(wanted_name(name, lines, made_at), wanted, name)
 

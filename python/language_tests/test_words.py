@@ -200,6 +200,12 @@ def _script(frame: Callable[[Json], Dict[str, Json]], part: Json, version: int) 
     return json.dumps({"version": version, "classes": [["Mine", "ValueError"]], **pools, **later, **frame(part)})
 
 
+def _with_cooperator(version: int, keys: Dict[str, Json]) -> str:
+    """A script whose Cooperator has these keys, and those that it has to have."""
+    settings = {**{key.key: _first(key.value) for key in LANGUAGE.keys_of("cooperator") if key.needed}, **keys}
+    return json.dumps({"version": version, "cooperator": settings, "events": []})
+
+
 class OfTheWords(unittest.TestCase):
     """The program's answers."""
 
@@ -248,6 +254,15 @@ class OfTheWords(unittest.TestCase):
             for place, word, form in loops
             for frame in _FRAMES[place]
         ])
+
+    def test_each_key_of_a_cooperator_is_read_as_its_row_says(self) -> None:
+        asked = []
+        for version in LANGUAGE.versions:
+            for key in LANGUAGE.keys_of("cooperator"):
+                fits = "" if key.since <= version else "BadShape"
+                asked += [(_with_cooperator(version, {key.key: value}), fits) for value in _fitting(key.value)]
+                asked += [(_with_cooperator(version, {key.key: value}), "BadShape") for value in _misshapen(key.value)]
+        self._expect(asked)
 
     def test_no_word_stands_where_it_may_not(self) -> None:
         elsewhere = [

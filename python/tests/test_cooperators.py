@@ -44,6 +44,10 @@ def cooperator_on(clock: task.Clock, delay: float, units: int = 1) -> task.Coope
     return task.Cooperator(steps_of([units]), lambda tick: clock.callLater(delay, tick))
 
 
+#: by which rule tasks take turns in what is recorded
+TWISTED = {"turns": grammar.TWISTED}
+
+
 def words_of(script: Dict[str, Any]) -> List[str]:
     """The words of the events of a script."""
     return [event[0] for event in script["events"]]
@@ -66,12 +70,12 @@ class Several(Case):
         said = self.said_of(program)
         script = json.loads(said.text)
         [[name, settings]] = script["cooperators"]
-        self.assertEqual((script["version"], script["cooperator"], settings), (3, {"units": 1, "delay": 1}, {"units": 2, "delay": 5}))
+        self.assertEqual((script["version"], script["cooperator"], settings), (3, {"units": 1, "delay": 1, **TWISTED}, {"units": 2, "delay": 5, **TWISTED}))
         self.assertEqual([event[2] for event in script["events"] if event[0] == "cooperateIn"], [name, name])
         self.assertRegex(name, "^cooperator_cooperator_o")
         self.assertEqual([line for line in said.journal if "tickin" in line][:2], [f"later tickin {name} 5", f"tickin {name}"])
 
-    def test_a_run_of_one_has_the_version_of_before(self) -> None:
+    def test_a_run_of_one_needs_no_names(self) -> None:
         def program() -> None:
             clock = task.Clock()
             task.Cooperator(scheduler=lambda tick: clock.callLater(1, tick)).stop()
@@ -79,7 +83,7 @@ class Several(Case):
             clock.advance(1)
 
         script = self.script_of(program)
-        self.assertEqual((script["version"], "cooperators" in script, words_of(script)), (1, False, ["cooperate", "advance"]))
+        self.assertEqual((script["version"], "cooperators" in script, words_of(script)), (3, False, ["cooperate", "advance"]))
 
     def test_numbers_of_steps_change_by_themselves(self) -> None:
         first, second = [3], [1]
@@ -146,6 +150,116 @@ class Several(Case):
             script = self.script_of(program)
         self.assertEqual(len(script["cooperators"]), 2)
         self.assertEqual([word for word in words_of(script) if word != "advance"], ["cooperate", "cooperateIn", "cooperateIn"] + ["later"] * 3)
+
+
+class Turns(Case):
+    """Tasks that take turns as Twisted has it."""
+
+    def steps(self, program: Callable[[], object]) -> str:
+        """The names of the tasks in the order of their steps, as the program makes them: `a`, `b` and so on."""
+        said = self.said_of(program)
+        self.assertEqual((said.quirks, said.plainly), ([], []))
+        made = [line.split(" ")[1] for line in said.journal if line.startswith("task")]
+        return "".join("abcdefgh"[made.index(line.split(" ")[1])] for line in said.journal if line.startswith("step "))
+
+    def units(self, program: Callable[[], object]) -> List[int]:
+        """The numbers of steps that the script sets for the Cooperator by name."""
+        events = self.script_of(program)["events"]
+        return [event[2] for event in events if event[0] == "unitsIn"]
+
+    def test_when_a_task_is_held_the_next_one_is_passed_by(self) -> None:
+        def program() -> None:
+            clock = task.Clock()
+            cooperator = cooperator_on(clock, 1)
+            waited: defer.Deferred[None] = defer.Deferred()
+            for each in (iter([waited]), work(2), work(2)):
+                cooperator.cooperate(each)
+            for _ in range(5):
+                clock.advance(1)
+
+        self.assertEqual(self.steps(program), "acbcb")
+
+    def test_a_task_that_joins_in_a_tick_schedules_the_next_one(self) -> None:
+        def program() -> None:
+            clock = task.Clock()
+            cooperator = cooperator_on(clock, 1, 2)
+
+            def joined_by_another() -> Iterator[None]:
+                cooperator.cooperate(work(2))
+                clock.callLater(3, work, 1)
+                yield None
+
+            cooperator.cooperate(joined_by_another())
+            cooperator.cooperate(work(1))
+            for _ in range(5):
+                clock.advance(1)
+
+        self.assertEqual(self.steps(program), "abcacbc")
+
+    def test_a_round_goes_on_where_the_steps_of_the_last_tick_were_used_up(self) -> None:
+        def program() -> None:
+            clock = task.Clock()
+            cooperator = cooperator_on(clock, 1)
+            cooperator.cooperate(work(0))
+            clock.advance(1)
+            cooperator.cooperate(work(1))
+            cooperator.cooperate(work(1))
+            for _ in range(4):
+                clock.advance(1)
+
+        self.assertEqual(self.steps(program), "acbcb")
+
+    def test_a_round_begins_anew_where_the_last_tick_has_found_no_task(self) -> None:
+        def program() -> None:
+            clock = task.Clock()
+            cooperator = cooperator_on(clock, 1, 2)
+            cooperator.cooperate(work(0))
+            clock.advance(1)
+            cooperator.cooperate(work(1))
+            cooperator.cooperate(work(1))
+            for _ in range(4):
+                clock.advance(1)
+
+        self.assertEqual(self.steps(program), "abcbc")
+
+    def one_after_another(self, *numbers: int) -> Callable[[], None]:
+        """A program with Cooperators of one step a tick, which have so many tasks, one after another. They have one name."""
+
+        def program() -> None:
+            clock = task.Clock()
+            cooperator_on(clock, 1).cooperate(work(1))
+            for number in numbers:
+                cooperator = cooperator_on(clock, 1)
+                for _ in range(number):
+                    cooperator.cooperate(work(1))
+                for _ in range(8):
+                    clock.advance(1)
+
+        return program
+
+    def test_the_next_one_of_a_name_begins_a_round(self) -> None:
+        self.assertEqual(self.steps(self.one_after_another(1, 2)), "ababcdcd")
+        self.assertEqual(self.units(self.one_after_another(1, 2)), [1000, 1])
+
+    def test_steps_needn_t_change_where_the_next_one_has_no_more_tasks(self) -> None:
+        self.assertEqual(self.units(self.one_after_another(1, 1)), [])
+        self.assertEqual(self.units(self.one_after_another(2, 1, 1)), [])
+
+    def test_one_that_was_used_before_the_recording(self) -> None:
+        clock = task.Clock()
+        cooperator = cooperator_on(clock, 1)
+        cooperator.cooperate(work(0))
+        clock.advance(1)
+
+        def program() -> None:
+            for _ in range(2):
+                cooperator.cooperate(work(1))
+            for _ in range(4):
+                clock.advance(1)
+
+        said = self.said_of(program)
+        why = "the first Cooperator is recorded as events: a Cooperator whose tasks took turns before the recording"
+        self.assertEqual([plainly.text for plainly in said.plainly], [why])
 
 
 class Stopped(Case):
@@ -399,7 +513,7 @@ class Plain(Case):
             self.assertTrue(done.called)
 
         script = self.script_of(program)
-        self.assertEqual((script["version"], "cooperators" in script), (1, False))
+        self.assertEqual((script["cooperator"], "cooperators" in script), ({"units": 1, "delay": 1, **TWISTED}, False))
         return script
 
     def test_a_scheduler_that_does_something_else(self) -> None:

@@ -290,6 +290,23 @@ class OfACooperator(Case):
             clock = task.Clock()
             cooperator = task.Cooperator(lambda: lambda: True, lambda tick: clock.callLater(1, tick))
 
+            made = cooperator.cooperate(iter([None, None]))
+            made.whenDone().callback(None)
+            with self.assertRaises(defer.AlreadyCalledError):
+                made.stop()
+
+        said = self.said_of(program)
+        [plainly] = said.plainly
+        why = "Twisted does what docs/TWISTED.md says of refused-when-done"
+        self.assertEqual(plainly.text, f"the first Cooperator is recorded as events: {why}")
+        self.assertEqual(said.quirks, [])
+        self.assertEqual(ours().answer(said.text).output, said.output)
+
+    def test_turns_are_those_of_twisted(self) -> None:
+        def program() -> None:
+            clock = task.Clock()
+            cooperator = task.Cooperator(lambda: lambda: True, lambda tick: clock.callLater(1, tick))
+
             def more(_: object) -> None:
                 cooperator.cooperate(iter([None, None]))
 
@@ -298,9 +315,7 @@ class OfACooperator(Case):
             clock.pump([1] * 9)
 
         said = self.said_of(program)
-        [plainly] = said.plainly
-        self.assertRegex(plainly.text, "^the first Cooperator is recorded as events: Twisted does what docs/TWISTED.md says of ")
-        self.assertEqual(said.quirks, [])
+        self.assertEqual((said.plainly, said.quirks), ([], []))
         self.assertEqual(ours().answer(said.text).output, said.output)
 
     def test_a_loop_that_was_fired_by_hand(self) -> None:

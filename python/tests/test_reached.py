@@ -12,6 +12,8 @@ from deferreds.twisted.reached import Shown, cases
 from deferreds.twisted.rules import RULES
 from deferreds.twisted.running import be_quiet, run
 
+from .test_turns import rows_of_turns
+
 _PAGE = TOP / "crates" / "dv_definition" / "specs" / "Definition.antt"
 _RULE = re.compile(r"^(?:abbrev|unfoldable) pub (\w+) : (.*)$", re.MULTILINE)
 
@@ -55,11 +57,31 @@ class Cases(unittest.TestCase):
         )
 
     def test_a_join_after_the_last_of_a_round_has_left(self) -> None:
-        joined = "the last of a round has left, and one joins"
+        joined = "version 3: the last of a round has left, and one joins that is last"
+        earlier = "versions 1 and 2: the last of a round has left, and one joins that is next"
         tasks = [["cooperate", "a", [{}, {}]], ["cooperate", "b", [{}, {}]]]
         turns = [["advance", 1], ["advance", 1]]
-        self.assertIn(joined, shown(*tasks, *turns, ["pauseTask", "b"], ["resumeTask", "b"]))
+        leaving = [["pauseTask", "b"], ["resumeTask", "b"]]
+        self.assertIn(joined, shown(*tasks, *turns, *leaving))
+        self.assertIn(earlier, shown(*tasks, *turns, *leaving, version=1))
         self.assertNotIn(joined, shown(*tasks, *turns, ["cooperate", "c", []]))
+
+    def test_turns_as_twisted_has_them(self) -> None:
+        found: Set[str] = set()
+        for row in rows_of_turns():
+            ran = Shown(row.script, run(row.script.encode(), rules=RULES))
+            found |= {case.what for case in cases() if ran.times(case)}
+        of_twisted = {case.what for case in cases() if case.what.startswith("as in Twisted: ")}
+        self.assertGreater(len(of_twisted), 10)
+        self.assertLessEqual(of_twisted, found)
+
+    def test_the_end_of_a_tick_is_that_of_its_event(self) -> None:
+        scheduled = "as in Twisted: a task that joins in a tick schedules the next one"
+        twisted = {"units": 2, "delay": 1, "turns": "twisted"}
+        beside = [["cooperate", "a", []], ["advance", 1], ["cooperate", "b", [{}]]]
+        self.assertNotIn(scheduled, shown(*beside, cooperator=twisted))
+        inside = [["cooperate", "a", [{"do": [["cooperate", "b", [{}]]]}]], ["advance", 1]]
+        self.assertIn(scheduled, shown(*inside, cooperator=twisted))
 
     def test_an_end_that_fails_in_a_finally(self) -> None:
         failed = "an end that fails in the first statements of a finally"

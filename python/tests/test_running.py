@@ -4,7 +4,7 @@ from __future__ import annotations
 
 import json
 import unittest
-from typing import Any, List, Optional
+from typing import Any, List, Optional, Tuple
 
 from deferreds.twisted.profile import Entry
 from deferreds.twisted.running import AT_LIMIT, OVER, UNMET, Batches, Run, be_quiet, run
@@ -135,15 +135,21 @@ class Printed(unittest.TestCase):
             #0 d ok "l\"""",
         )
 
-    def test_a_failure_of_an_end_leaves_an_inline_body_past_its_tries(self) -> None:
+    def test_a_failure_of_an_end_is_caught_from_version_3_on(self) -> None:
+        raised = ["try", [["end", ["raise", "ValueError", "x"]]], ["Exception"], [["end", ["pass"]]]]
+        for version, outcome in ((1, 'fail ValueError "x"'), (2, 'fail ValueError "x"'), (3, "ok null")):
+            with self.subTest(version=version):
+                run_ = ran(["inline", "d", [raised]], version=version)
+                self.assertEqual(run_.outcomes, [f"#0 d {outcome}"])
+
+    def test_what_a_caller_of_an_inline_body_handles_is_not_active_in_it(self) -> None:
         run_ = ran(
-            [
-                "inline",
-                "d",
-                [["try", [["end", ["raise", "ValueError", "x"]]], ["Exception"], [["end", ["pass"]]]]],
-            ]
+            ["deferred", "a"],
+            ["inline", "d", [["await", "a"], ["raise"]]],
+            ["inline", "e", [["try", [["await", "z"]], ["NameError"], [["do", ["callback", "a", 1]]]]]],
+            version=3,
         )
-        self.assertEqual(run_.outcomes, ['#0 d fail ValueError "x"'])
+        self.assertIn('#1 d fail RuntimeError "no active exception"', run_.outcomes)
 
     def test_results_of_jobs_come_at_their_times(self) -> None:
         run_ = ran(
@@ -314,14 +320,22 @@ class Expecting(unittest.TestCase):
         )
         self.assertEqual(
             [line for line in run_.journal if line.startswith(("expect", "unmet"))],
-            ['expect #0 ok "l"', 'expect #1 ok ["l"]', 'unmet #0 ok "l"'],
+            ['expect #0 ok "l"', 'expect #1 ok ["l"]', 'unmet #0 ok "l" expected ok "m"'],
         )
 
     def test_what_is_unmet_ends_the_run(self) -> None:
-        for outcome in (["unfired"], ["waiting"], ["ok", True], ["ok", 2], ["fail", {"fail": "ValueError", "message": ""}]):
+        outcomes: List[Tuple[List[Any], str]] = [
+            (["unfired"], "unfired"),
+            (["waiting"], "waiting"),
+            (["ok", True], "ok true"),
+            (["ok", 2], "ok 2"),
+            (["fail", {"fail": "ValueError", "message": ""}], 'fail ValueError ""'),
+        ]
+        for outcome, said in outcomes:
             with self.subTest(outcome=outcome):
                 run_ = ran(["deferred", "d"], ["callback", "d", 1], ["expect", "d", outcome], ["note", "no"], version=3)
-                self.assertEqual((run_.status, run_.journal[-1], run_.outcomes), (UNMET, "unmet #0 ok 1", ["#0 d ok 1"]))
+                line = f"unmet #0 ok 1 expected {said}"
+                self.assertEqual((run_.status, run_.journal[-1], run_.outcomes), (UNMET, line, ["#0 d ok 1"]))
 
     def test_a_name_that_is_unbound_ends_it_too(self) -> None:
         run_ = ran(["expect", "d", ["unfired"]], ["deferred", "d"], version=3)

@@ -121,7 +121,7 @@ class SearchTest(ShakenCase):
         for _ in range(TRIES):
             ended = self.shake("-f", "--shake", "40", "--shaken", "start,job", "--longest", "200", "races/lock_order.py")
             self.assertEqual(ended.status, 1, ended.said)
-            said = re.search(r"record: \./deferreds --orders (lock_order\.orders\.json) runs (\d+) orders of 1 result, of which (\d+) ends? as the run that fails\n", ended.said)
+            said = re.search(r"record: \./deferreds --orders (lock_order\.orders\.json) runs (\d+) orders of 2 results, of which (\d+) ends? as the run that fails\n", ended.said)
             if said:
                 break
         assert said is not None, ended.said
@@ -129,7 +129,7 @@ class SearchTest(ShakenCase):
         orders = InOrders(Inputs(str(self.folder / said[1])), []).orders
         self.assertEqual((orders.total, len(orders.outcomes)), (int(said[2]), 2))
         self.assertIn(int(said[3]), [one.orders for one in orders.outcomes])
-        waiting = [way.orders for one in orders.endings for way in one.ways if one.name.startswith("work_24") and way.state == "unfired"]
+        waiting = [way.orders for one in orders.endings for way in one.ways if one.name.startswith("work_25") and way.state == "unfired"]
         self.assertEqual(waiting, [int(said[3])])
 
     def test_a_command_judges(self) -> None:

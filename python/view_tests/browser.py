@@ -67,8 +67,10 @@ def _is_of_pages(process: int) -> bool:
 
 def _seconds(process: int) -> float:
     """How many seconds of the processor the main thread of a process has taken."""
-    stat = _stat(f"{process}/task/{process}")
-    return sum(map(int, stat[11:13])) / os.sysconf("SC_CLK_TCK")
+    try:
+        return int(Path(f"/proc/{process}/task/{process}/schedstat").read_text(encoding="utf-8").split()[0]) / 1e9
+    except OSError:
+        return 0.0
 
 
 @functools.lru_cache(maxsize=None)
@@ -192,9 +194,9 @@ class Browser:
             self.events.append(self._next())
         return time.monotonic() - begun
 
-    def busy(self) -> float:
-        """How many seconds of the processor the threads have taken that run the scripts of pages, and draw them: more than one since the start."""
-        return sum(_seconds(child) for child in _below(self._pid) if _is_of_pages(child))
+    def busy(self) -> Dict[int, float]:
+        """How many seconds of the processor the thread has taken that runs the scripts of pages, and draws them: by process, since its start."""
+        return {child: _seconds(child) for child in _below(self._pid) if _is_of_pages(child)}
 
     def ask(self, expression: str) -> Any:
         """What an expression of JavaScript gives."""

@@ -62,7 +62,7 @@ _WIDE = """(() => { const out = []; for (const element of document.querySelector
 return out; })()"""
 
 # links that lead neither to a part of the page, nor to a row that is drawn, nor to a Deferred of the data, nor to a file
-_DEAD = """(() => { const data = JSON.parse(document.getElementById('data').textContent), numbers = new Set(data.deferreds.map(one => one[0]));
+_DEAD = """(() => { const data = JSON.parse(document.getElementById('data').textContent), numbers = new Set(data.deferreds.numbers);
 return [...document.querySelectorAll('a[href]')].filter(link => { const [name, number] = link.getAttribute('href').slice(1).split('=');
   if (name === 'row') return !(data.first < number && number <= data.first + data.kinds.length);
   if (name === 'd') return !numbers.has(Number(number));

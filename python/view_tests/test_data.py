@@ -110,17 +110,20 @@ class Deferreds(unittest.TestCase):
     """Deferreds of a page, as data."""
 
     def test_each_field(self) -> None:
-        outer, inner = (dict(zip(FIELDS, one)) for one in data(of([*_LINES, *_ENDS]))["deferreds"])
+        columns = data(of([*_LINES, *_ENDS]))["deferreds"]
+        written = columns.pop("written").split("\n")
+        self.assertEqual(columns, {"numbers": [0, 1], "ends": [0, 1], "made": [0, 3], "last": [13, 13], "names": "outer\ninner"})
+        outer, inner = (dict(zip(FIELDS, json.loads(one))) for one in written)
         self.assertEqual(
             outer,
-            {"number": 0, "names": "outer", "end": 0, "value": "null", "waits": -1, "made": 0, "last": 13, "fired": 10, "by": ["after ", ["call answer"], ", ", -10],
-             "spent": [7, 0, 0, 1, 0], "spans": [0, 0, 10, 4, 11, 8, 12, 4, 13, 2], "steps": "m0 f10 r11-12"},
+            {"value": "null", "waits": -1, "fired": 10, "by": ["after ", ["call answer"], ", ", -10], "spent": [7, 0, 0, 1, 0],
+             "spans": [0, 0, 10, 4, 11, 8, 12, 4, 13, 2], "steps": "m0 f10 r11-12"},
         )  # fmt: skip
-        self.assertEqual((inner["end"], inner["value"], inner["spans"]), (1, 'ValueError "no"', [3, 0, 5, 2, 6, 8, 7, 6, 13, 4]))
+        self.assertEqual((inner["value"], inner["spans"]), ('ValueError "no"', [3, 0, 5, 2, 6, 8, 7, 6, 13, 4]))
 
     def test_those_that_ended_well_before_the_lines_that_are_shown_are_left_out(self) -> None:
         lines = [line for number in range(3_000) for line in (f"new #{number} d", f"fire #{number} ok 1")]
-        numbers = [one[0] for one in data(of(lines), 5_999, 6_000)["deferreds"]]
+        numbers = data(of(lines), 5_999, 6_000)["deferreds"]["numbers"]
         self.assertEqual(numbers, [*range(2_000), 2_999])  # (2,000 stand in the table of outcomes)
 
     def test_tables_are_of_lines_of_the_program_if_they_are_known(self) -> None:

@@ -85,7 +85,7 @@ def targets(page: str) -> Set[str]:
     """Where links of a page may lead: to its parts, its rows, and the trees of its Deferreds."""
     data = data_of(page)
     rows = {f"#row={row + 1}" for row in range(data["first"], data["first"] + len(data["kinds"]))}
-    return rows | {f"#d={one[0]}" for one in data["deferreds"]} | {f"#{one}" for one in Read(page).ids} | {"#find"}
+    return rows | {f"#d={number}" for number in data["deferreds"]["numbers"]} | {f"#{one}" for one in Read(page).ids} | {"#find"}
 
 
 def is_safe(page: str) -> bool:

@@ -140,7 +140,7 @@ class OfJournals(unittest.TestCase):
             [
                 "token 1 of 1 token of l is held (line 3) | taken 1 time, released 0 times | held for #0·a since line 3"
                 " | #1·b waits for a token of l",
-                "getter 1 waits for a value of q, and nothing is put (line 7) | #2·c waits for a value of q",
+                "getter 1 Deferred waits for a value of q, and nothing is put (line 7) | #2·c waits for a value of q",
             ],
         )
 
@@ -475,8 +475,14 @@ class OfExpectations(unittest.TestCase):
 
     def test_what_it_is_and_what_was_expected(self) -> None:
         said = "unmet a Deferred isn't as the script expects, and the run ended there (line 2) | #0·d is unfired, and "
-        self.assertEqual(self.report(["new #0 d", "unmet #0 unfired"], ["ok", [1, "x"]]), said + 'ok [1,"x"] was expected')
-        self.assertEqual(self.report(["new #0 d", "unmet #0 unfired"], ["waiting"]), said + "waiting was expected")
+        lines = ["new #0 d", 'unmet #0 unfired expected ok [1,"x"]']
+        self.assertEqual(self.report(lines, ["ok", [1, "x"]]), said + 'ok [1,"x"] was expected')
+        self.assertEqual(self.report(["new #0 d", "unmet #0 unfired expected waiting"], ["waiting"]), said + "waiting was expected")
+
+    def test_a_text_that_says_expected_is_part_of_the_value(self) -> None:
+        lines = ["new #0 d", 'unmet #0 ok "\\" expected ok 1" expected ok "x expected ok 2"']
+        said = 'is ok "\\" expected ok 1", and ok "x expected ok 2" was expected'
+        self.assertIn(said, self.report(lines, ["ok", "x expected ok 2"]))
 
     def test_a_name_that_is_bound_to_none(self) -> None:
         self.assertIn('no Deferred has the name "e", and unfired was expected', self.report(["new #0 d", 'unbound "e"'], ["unfired"]))

@@ -62,8 +62,8 @@ _CAUSES = {
     ),
     "warehouse": Cause(
         Kind.ODD,
-        ["was unfired for 1.", "order(number=7, town='Ripon'", "17 were made there: 15 ok, 1 cancelled, 1 fail", "order_103_7), made at warehouse.py:103, awaited it at warehouse.py:67", "a guess"],
-        {"wire.py:33": "defer.Deferred()", "warehouse.py:103": "shop.order(", "warehouse.py:67": 'await self.warehouse.ask("reserve"'},
+        ["was unfired for 1.", "order(number=7, town='Ripon'", "17 were made there: 15 ok, 1 cancelled, 1 fail", "order_103_7), made at warehouse.py:103, awaited it at warehouse.py:67", "the others were fired at wire.py:41 (15), wire.py:43 (1)", "a guess"],
+        {"wire.py:41": "answer.callback(", "wire.py:43": "answer.errback(", "wire.py:33": "defer.Deferred()", "warehouse.py:103": "shop.order(", "warehouse.py:67": 'await self.warehouse.ask("reserve"'},
     ),
     "stock_levels": Cause(
         Kind.OVERTAKEN,
@@ -72,7 +72,7 @@ _CAUSES = {
     ),
     "mailer": Cause(
         Kind.GETTER,
-        ["1 waits for a value", "the inline body of #2·work_26", "#2·work_26, made at mailer.py:26, got 3 values of it", "#6·work_30, made at mailer.py:30, got 3"],
+        ["1 Deferred waits for a value", "the inline body of #2·work_26", "#2·work_26, made at mailer.py:26, got 3 values of it", "#6·work_30, made at mailer.py:30, got 3 values of it, and ended in line ", ", after the last one: null"],
         {"mailer.py:35": "self.letters.get()", "mailer.py:26": "self.work()", "mailer.py:30": "self.work()"},
     ),
     "transfers": Cause(

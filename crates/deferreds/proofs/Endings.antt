@@ -28,11 +28,10 @@ use Rattle.dv_run.specs.Run.{GivesUp}
 use Rattle.dv_run.specs.declared.orders.Chosen.{Chosen}
 use Rattle.dv_run.specs.declared.words.Form.{Form}
 use Rattle.dv_run.specs.declared.words.Form.TheVariants as form
-use Rattle.dv_survey.specs.declared.format.Format.{Format}
-use Rattle.dv_why.specs.Explaining.{ended_status, ended_text, Explains}
+use Rattle.dv_why.specs.Explaining.{ended_status, ended_text, Explains, GivesUp as GivesUpToExplain}
 use Rattle.dv_why.specs.declared.explaining.WhyFault.{WhyFault}
 use Rattle.dv_run.specs.declared.words.Task.TheVariants as task
-use Rattle.deferreds.specs.Ending.{Does, ExplainsScript, Replays, Runs, RunsAsJson, SurveysScript}
+use Rattle.deferreds.specs.Ending.{Does, Replays, Runs, format_for}
 
 pub runs : (ended : Result Report RunFault) (code : ℕ) (said : List ℕ) (input old new : Told)
     → IfOk ended (Prints input old new) → IfErr ended (λ fault. GivesUp fault input old new)
@@ -40,16 +39,31 @@ pub runs : (ended : Result Report RunFault) (code : ℕ) (said : List ℕ) (inpu
 runs ended code said input old new ok err is says =
     record { ended = ended; ok = ok; err = err; status = is; text = says }
 
-pub runs_as_json : (ended : Result Ending RunFault) (code : ℕ) (said : List ℕ) (input old new : Told)
-    → IfOk ended (HasRun input old new) → IfErr ended (λ fault. GivesUpAsJson fault input old new)
-    → code ≡ json_status ended → said ≡ json_text ended → RunsAsJson code said input old new
-runs_as_json ended code said input old new ok err is says =
-    record { ended = ended; ok = ok; err = err; status = is; text = says }
+pub runs_plainly : (workers : ℕ) (word : List ℕ) (code : ℕ) (said : List ℕ) (refusal : Option OrderFault)
+    (many : Option Number) (input old new : Told) → Runs code said input old new → refusal ≡ None → many ≡ None
+    → Does (task.Run form.Lines workers) word code said refusal many input old new
+runs_plainly workers word code said refusal many input old new runs accepted few =
+    (runs, record { accepted = accepted; few = few })
 
-pub explains : (ended : Result (Option ScriptFault) WhyFault) (code : ℕ) (said : List ℕ) (input old new : Told)
-    → IfOk ended (Explains input old new)
-    → code ≡ ended_status ended → said ≡ ended_text ended → ExplainsScript code said input old new
-explains ended code said input old new ok is says = record { ended = ended; ok = ok; status = is; text = says }
+pub runs_as_json : (ended : Result Ending RunFault) (workers : ℕ) (word : List ℕ) (code : ℕ) (said : List ℕ)
+    (refusal : Option OrderFault) (many : Option Number) (input old new : Told)
+    → IfOk ended (HasRun input old new) → IfErr ended (λ fault. GivesUpAsJson fault input old new)
+    → code ≡ json_status ended → said ≡ json_text ended → refusal ≡ None → many ≡ None
+    → Does (task.Run form.Json workers) word code said refusal many input old new
+runs_as_json ended workers word code said refusal many input old new ok err is says accepted few = (
+  record { ended = ended; ok = ok; err = err; status = is; text = says },
+  record { accepted = accepted; few = few },
+)
+
+pub explains : (ended : Result (Option ScriptFault) WhyFault) (word : List ℕ) (code : ℕ) (said : List ℕ)
+    (refusal : Option OrderFault) (many : Option Number) (input old new : Told)
+    → IfOk ended (Explains input old new) → IfErr ended (λ fault. GivesUpToExplain fault input old new)
+    → code ≡ ended_status ended → said ≡ ended_text ended → refusal ≡ None → many ≡ None
+    → Does task.Why word code said refusal many input old new
+explains ended word code said refusal many input old new ok err is says accepted few = (
+  record { ended = ended; ok = ok; err = err; status = is; text = says },
+  record { accepted = accepted; few = few },
+)
 
 -- a run in given batches went to its end, or failed
 pub replays_lines : (batches : List Batch) (report : Report) (code : ℕ) (said : List ℕ) (refusal : Option OrderFault)
@@ -83,41 +97,49 @@ fails_json batches fault code said refusal input old new gives_up is says refuse
 -- the word was read, or it says no batches, or its reading was out of memory
 pub replays_word : (form : Form) (workers : ℕ) (word : List ℕ) (batches : List Batch) (code : ℕ) (said : List ℕ)
     (refusal : Option OrderFault) (many : Option Number) (input old new : Told) → batches_in word ≡ Some batches
-    → Replays form batches code said refusal input old new
+    → Replays form batches code said refusal input old new → many ≡ None
     → Does (task.Replay form workers) word code said refusal many input old new
-replays_word form workers word batches code said refusal many input old new says replays =
-    inl (record { batches = batches; says = says; replays = replays })
+replays_word form workers word batches code said refusal many input old new says replays few =
+    inl (record { batches = batches; says = says; replays = replays }, few)
 
 pub says_none : (form : Form) (workers : ℕ) (word : List ℕ) (code : ℕ) (said : List ℕ) (refusal : Option OrderFault)
-    (many : Option Number) (input told : Told) → batches_in word ≡ None → code ≡ 64
+    (many : Option Number) (input told : Told) → batches_in word ≡ None → code ≡ 64 → refusal ≡ None → many ≡ None
     → Does (task.Replay form workers) word code said refusal many input told told
-says_none form workers word code said refusal many input told none is =
-    inr (inl (record { none = none; status = is; written = Keeps-refl told }))
+says_none form workers word code said refusal many input told none is accepted few =
+    inr
+    (inl
+    (record { none = none; status = is; written = Keeps-refl told }, record { accepted = accepted; few = few }))
 
 pub word_fails : (form : Form) (workers : ℕ) (word : List ℕ) (code : ℕ) (said : List ℕ) (refusal : Option OrderFault)
-    (many : Option Number) (input told : Told) → code ≡ 3 → said ≡ codes "out of memory"
+    (many : Option Number) (input told : Told) → code ≡ 3 → said ≡ codes "out of memory" → refusal ≡ None → many ≡ None
     → Does (task.Replay form workers) word code said refusal many input told told
-word_fails form workers word code said refusal many input told is says =
-    inr (inr (record { status = is; text = says; written = Keeps-refl told }))
+word_fails form workers word code said refusal many input told is says accepted few =
+    inr
+    (inr
+    (record { status = is; text = says; written = Keeps-refl told }, record { accepted = accepted; few = few }))
 
 -- a run in the chosen orders ended, or failed
-pub surveys_all : (format : Format) (chosen : Chosen) (sums : Sums) (code : ℕ) (said : List ℕ) (many : Option Number)
-    (input old new : Told) → Surveys format chosen input old new sums
-    → code ≡ survey_status sums → said ≡ [] → many ≡ None → SurveysScript format chosen code said many input old new
-surveys_all format chosen sums code said many input old new surveys is says few =
-    record { ended = Ok sums; ok = surveys; err = tt; status = is; text = says; number = few }
+pub surveys_all : (form : Form) (chosen : Chosen) (sums : Sums) (word : List ℕ) (code : ℕ) (said : List ℕ)
+    (refusal : Option OrderFault) (many : Option Number) (input old new : Told)
+    → Surveys (format_for form chosen) chosen input old new sums
+    → code ≡ survey_status sums → said ≡ [] → many ≡ None → refusal ≡ None
+    → Does (task.Survey form chosen) word code said refusal many input old new
+surveys_all form chosen sums word code said refusal many input old new surveys is says few accepted =
+    (record { ended = Ok sums; ok = surveys; err = tt; status = is; text = says; number = few }, accepted)
 
-pub surveys_fault : (format : Format) (chosen : Chosen) (fault : SurveyFault) (code : ℕ) (said : List ℕ)
-    (many : Option Number) (input old new : Told) → surveying.GivesUp format fault chosen input old new
-    → code ≡ survey_fault_status fault → said ≡ survey_fault_text fault → many ≡ too_many fault
-    → SurveysScript format chosen code said many input old new
-surveys_fault format chosen fault code said many input old new gives_up is says number =
-    record { ended = Err fault; ok = tt; err = gives_up; status = is; text = says; number = number }
+pub surveys_fault : (form : Form) (chosen : Chosen) (fault : SurveyFault) (word : List ℕ) (code : ℕ) (said : List ℕ)
+    (refusal : Option OrderFault) (many : Option Number) (input old new : Told)
+    → surveying.GivesUp (format_for form chosen) fault chosen input old new
+    → code ≡ survey_fault_status fault → said ≡ survey_fault_text fault → many ≡ too_many fault → refusal ≡ None
+    → Does (task.Survey form chosen) word code said refusal many input old new
+surveys_fault form chosen fault word code said refusal many input old new gives_up is says number accepted =
+    (record { ended = Err fault; ok = tt; err = gives_up; status = is; text = says; number = number }, accepted)
 
 pub ruleset endings = (
   surveys_all,
   surveys_fault,
   runs,
+  runs_plainly,
   runs_as_json,
   explains,
   replays_lines,

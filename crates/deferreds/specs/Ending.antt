@@ -33,8 +33,13 @@ use Rattle.dv_run.specs.declared.words.Task.{Task}
 use Rattle.dv_run.specs.declared.words.Task.TheVariants as task
 use Rattle.dv_survey.specs.declared.format.Format.{Format}
 use Rattle.dv_survey.specs.declared.format.Format.TheVariants as format
-use Rattle.dv_why.specs.Explaining.{ended_status, ended_text, Explains}
+use Rattle.dv_why.specs.Explaining.{ended_status, ended_text, Explains, GivesUp as GivesUpToExplain}
 use Rattle.dv_why.specs.declared.explaining.WhyFault.{WhyFault}
+
+-- no line follows of batches that are refused, nor of orders that are too many
+pub record IsPlain (refusal : Option OrderFault) (many : Option Number) : Type 0 where
+  pub accepted : refusal ≡ None
+  pub few : many ≡ None
 
 -- a run whose text is the headline's ended, and this is its status and what goes to standard error
 pub record Runs (code : ℕ) (said : List ℕ) (input old new : Told) : Type 0 where
@@ -56,6 +61,7 @@ pub record RunsAsJson (code : ℕ) (said : List ℕ) (input old new : Told) : Ty
 pub record ExplainsScript (code : ℕ) (said : List ℕ) (input old new : Told) : Type 0 where
   pub ended : Result (Option ScriptFault) WhyFault
   pub ok : IfOk ended (Explains input old new)
+  pub err : IfErr ended (λ fault. GivesUpToExplain fault input old new)
   pub status : code ≡ ended_status ended
   pub text : said ≡ ended_text ended
 
@@ -146,14 +152,17 @@ pub record SurveysScript (format : Format) (chosen : Chosen) (code : ℕ) (said 
 
 -- how each task may end, with the word of the batches
 abbrev pub Does : Task → List ℕ → ℕ → List ℕ → Option OrderFault → Option Number → Told → Told → Told → Type 0
-Does (task.Run form.Lines workers) word code said refusal many input old new = Runs code said input old new
-Does (task.Run form.Json workers) word code said refusal many input old new = RunsAsJson code said input old new
+Does (task.Run form.Lines workers) word code said refusal many input old new =
+    Runs code said input old new × IsPlain refusal many
+Does (task.Run form.Json workers) word code said refusal many input old new =
+    RunsAsJson code said input old new × IsPlain refusal many
 Does (task.Replay form workers) word code said refusal many input old new =
-    ReplaysWord form word code said refusal input old new ⊎ SaysNoBatches word code old new
-    ⊎ WordFails code said old new
+    (ReplaysWord form word code said refusal input old new × many ≡ None)
+    ⊎ (SaysNoBatches word code old new × IsPlain refusal many)
+    ⊎ (WordFails code said old new × IsPlain refusal many)
 Does (task.Survey form chosen) word code said refusal many input old new =
-    SurveysScript (format_for form chosen) chosen code said many input old new
-Does task.Why word code said refusal many input old new = ExplainsScript code said input old new
+    SurveysScript (format_for form chosen) chosen code said many input old new × refusal ≡ None
+Does task.Why word code said refusal many input old new = ExplainsScript code said input old new × IsPlain refusal many
 
 -- who runs a script that is refused is pointed to what explains it
 abbrev pub hint_after : ℕ → List ℕ

@@ -65,6 +65,7 @@ impl Exit {
         ensures text { result.text.now ≡ ended.entry.1.now }
         ensures hint { result.hint.now ≡ hint_after ended.entry.0 }
         ensures refusal { result.refusal ≡ None }
+        ensures few { result.too_many ≡ None }
     {
         let (status, text) = ended;
         Exit {
@@ -82,6 +83,7 @@ impl Exit {
         ensures status { result.status ≡ fault_status fault }
         ensures text { result.text.now ≡ fault_text fault }
         ensures refusal { result.refusal ≡ fault_refusal fault }
+        ensures few { result.too_many ≡ None }
     {
         let status = fault_status(fault);
         Exit {
@@ -128,6 +130,7 @@ impl Exit {
     pub fn wrong_batches() -> Exit
         ensures status { result.status ≡ 64 }
         ensures refusal { result.refusal ≡ None }
+        ensures few { result.too_many ≡ None }
     {
         Exit {
             status: 64,

@@ -1,6 +1,6 @@
 //! What is done with a script.
 
-ghost use Rattle.std.specs.Prelude.{◌≡◌, ◌≤◌, Ok};
+ghost use Rattle.std.specs.Prelude.{◌≡◌, ◌≤◌, None, Ok};
 ghost use Rattle.dv_run.specs.Exit.{error_text, status};
 ghost use Rattle.deferreds.specs.Ending.{Does, Replays, Runs, format_for, size_of};
 ghost use Rattle.dv_run.specs.Words.{HasFewWorkers};
@@ -98,8 +98,9 @@ where
     R: Source,
     W: Sink,
     requires { workers ≤ MOST_WORKERS }
-    ensures { Replays form batches.now result.status result.text.now result.refusal
+    ensures run { Replays form batches.now result.status result.text.now result.refusal
         (R.left reader.old) (W.taken writer.old) (W.taken writer.new) }
+    ensures few { result.too_many ≡ None }
 {
     match form {
         Form::Lines => match replay(rt, reader, writer, workers, &PlainGate, batches) {

@@ -5,7 +5,8 @@ use Rattle.dv_clock.specs.Clock.{Clock, Upcoming, is_waiting, next_call, schedul
 use Rattle.dv_clock.specs.Clock.{ended}
 use Rattle.dv_clock.specs.Due.{entry_when_due}
 use Rattle.dv_clock.specs.LoopingCall.{loop_next, IsNextTurn}
-use Rattle.dv_clock.specs.Turns.{Turns, turn_of, left}
+use Rattle.dv_clock.specs.Turns.{Turns, is_among, joined, left, turn_of}
+use Rattle.dv_script.specs.declared.turn_rule.TurnRule.{TurnRule}
 use Rattle.dv_clock.specs.declared.call.Call.{Call}
 use Rattle.dv_clock.specs.declared.call.CallState.TheVariants.{Waiting, Dropped}
 use Rattle.dv_clock.specs.declared.delay_from.DelayFrom.{DelayFrom}
@@ -64,6 +65,14 @@ abbrev pub TheNextTurnIsTheFirstLater : Type 0
 TheNextTurnIsTheFirstLater =
     (start interval now : ℕ) → start ≤ now → 0 < interval → IsNextTurn start interval now (loop_next start interval now)
 
--- when a task leaves, it is still the turn of the task whose turn it was, if that is another
-abbrev pub NobodyIsSkipped : Type 0
-NobodyIsSkipped = (t : Turns) (task u : ℕ) → turn_of t ≡ Some u → u ≢ task → turn_of (left task t) ≡ Some u
+-- by the rules that skip nobody, when a task leaves, it is still the turn of the task whose turn it was, if that is
+-- another
+abbrev pub SkipsNobody : TurnRule → Type 0
+SkipsNobody rule =
+    (t : Turns) (task u : ℕ) → t.rule ≡ rule → turn_of t ≡ Some u → u ≢ task → turn_of (left task t) ≡ Some u
+
+-- a task that joins after one that took turns has left doesn't take the turn of another
+abbrev pub NobodyOvertakes : TurnRule → Type 0
+NobodyOvertakes rule =
+    (t : Turns) (task other u : ℕ) → t.rule ≡ rule → is_among task t.tasks ≡ true → turn_of (left task t) ≡ Some u
+    → turn_of (joined other (left task t)) ≡ Some u

@@ -2,7 +2,8 @@
 
 ghost use Rattle.dv_clock.specs.Laws.{TheFirstRunsNext, WhatIsDueRuns, TimeNeverGoesBack};
 ghost use Rattle.dv_clock.specs.Laws.{EndedCallsNeverRun, CallsRunOnceAtMost};
-ghost use Rattle.dv_clock.specs.Laws.{TheNextTurnIsTheFirstLater, NobodyIsSkipped};
+ghost use Rattle.dv_clock.specs.Laws.{TheNextTurnIsTheFirstLater, SkipsNobody, NobodyOvertakes};
+ghost use Rattle.dv_script.specs.declared.turn_rule.TurnRule.TheVariants.{Earlier, Fair};
 
 /// What runs next is due, and of all that wait it is due first, and of those that are due with it,
 /// it was scheduled first.
@@ -37,7 +38,10 @@ pub fn the_next_turn_is_the_first_later()
     ensures { TheNextTurnIsTheFirstLater }
 {}
 
-/// When a task leaves, nobody else's turn is skipped.
+/// When a task leaves, nobody else's turn is skipped, except by Twisted's rule; by the rule that is
+/// fair, nobody is before it who joins after that either.
 pub fn nobody_is_skipped()
-    ensures { NobodyIsSkipped }
+    ensures earlier { SkipsNobody Earlier }
+    ensures fair { SkipsNobody Fair }
+    ensures overtakes { NobodyOvertakes Fair }
 {}

@@ -13,5 +13,6 @@ pub mod laws;
 pub mod limits;
 pub mod loop_id;
 pub mod looping_call;
+pub mod place;
 pub mod task_id;
 pub mod turns;

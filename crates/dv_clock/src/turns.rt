@@ -1,56 +1,66 @@
 ghost use Rattle.std.specs.Prelude.{◌≡◌, length, IfOk, OnOk, OnErr};
 
+use crate::place::Place;
 use crate::task_id::TaskId;
+use dv_script::turn_rule::TurnRule;
 use dv_value::items::Items;
 use std::alloc::{AllocError, Global};
 use std::collections::{BTreeMap, HashMap};
 use std::marker::Model;
 
 /// The tasks that take turns, each in its order of joining, round and round (Twisted:
-/// `Cooperator`). Where one leaves, nobody's turn is skipped.
+/// `Cooperator`). Whose turn it is once one has left goes by a rule.
 ///
-/// Each task is kept under a number that grows with each that joins; `next` is the number from
-/// which on the next is looked for, and `turn` is what is found, so that it is looked for once a
-/// turn.
+/// Each task is kept under a number that grows with each that joins.
 #[derive(Drop)]
 pub struct Turns {
+    rule: TurnRule,
     order: BTreeMap<u64, u32>,
     numbers: HashMap<u32, u64>,
     given: u64,
-    next: u64,
-    turn: Option<(u64, u32)>,
+    place: Place,
 }
 
 impl Model for Turns {
+    ghost use Rattle.std.specs.Prelude.{◌+◌};
     ghost use Rattle.std.specs.Coded.{codes};
-    ghost use Rattle.dv_clock.specs.Turns.{Turns as Seen, IsReady, tasks_of, stepped};
+    ghost use Rattle.dv_clock.specs.Turns.{Turns as Seen, IsKept, tasks_of, stepped};
+    ghost use Rattle.dv_script.specs.contracts.turn_rule.TurnRule as rule_contract;
 
     ghost Value = { Seen };
 
-    ghost coded = { Prim.hlevel codes };
+    ghost coded = { Prim.hlevel (codes, rule_contract.the_row.coded) };
 
     ghost view = { λ t. record {
+      rule = t.rule;
       tasks = tasks_of t.order.entries;
-      position = stepped t.next t.order.entries;
+      position = stepped t.place.next t.order.entries + t.place.beyond;
     } };
 
-    ghost invariant = { λ t. IsReady t.order.entries t.numbers.entries t.given t.next t.turn };
+    ghost invariant = { λ t. IsKept t.order.entries t.numbers.entries t.given t.place };
 }
 
 impl Turns {
     ghost use Rattle.dv_clock.specs.Turns.{new_turns, joined, is_among, left, turn_of, gone_on};
 
     /// Nobody takes turns.
-    pub fn new(alloc: Global) -> Turns
-        ensures { result ≡ new_turns }
+    pub fn new(alloc: Global, rule: TurnRule) -> Turns
+        ensures { result ≡ new_turns rule }
     {
         Turns {
+            rule,
             order: BTreeMap::new(alloc),
             numbers: HashMap::new(alloc),
             given: 0,
-            next: 0,
-            turn: None,
+            place: Place { next: 0, beyond: 0 },
         }
+    }
+
+    /// The rule by which a task leaves.
+    pub fn rule(&self) -> TurnRule
+        ensures { result ≡ self.now.rule }
+    {
+        self.rule
     }
 
     /// How many tasks take turns.
@@ -85,7 +95,7 @@ impl Turns {
             return Err(AllocError);
         };
         join(&mut self.order, &mut self.numbers, joining, self.given)?;
-        self.turn = turn_with(self.turn, self.next, (self.given, joining));
+        self.place = place_joined(self.place, self.given);
         self.given = given;
         Ok(())
     }
@@ -100,7 +110,7 @@ impl Turns {
             return false;
         };
         self.order.remove(&number);
-        self.turn = turn_without(&self.order, self.next, self.turn, number);
+        self.place = place_left(&self.order, self.rule, self.place, number);
         true
     }
 
@@ -108,32 +118,50 @@ impl Turns {
     pub fn turn(&self) -> Option<TaskId>
         ensures { result ≡ turn_of self.now }
     {
-        let (_, task) = self.turn?;
-        Some(TaskId::new(task))
+        match turn(&self.order, self.place.next) {
+            Some((_, task)) => Some(TaskId::new(task)),
+            None => None,
+        }
     }
 
     /// The task whose turn it is; then it is the turn of the one after it. None where nobody takes
-    /// turns.
+    /// turns; then the next turn is that of the first.
     pub fn next(&mut self) -> Option<TaskId>
         ensures turn { result ≡ turn_of self.old }
         ensures rest { self.new ≡ gone_on self.old }
     {
-        let (number, task) = self.turn?;
-        self.next = number + 1;
-        self.turn = turn(&self.order, self.next);
+        let Some((number, task)) = turn(&self.order, self.place.next) else {
+            self.place = Place { next: 0, beyond: 0 };
+            return None;
+        };
+        self.place = Place {
+            next: number + 1,
+            beyond: 0,
+        };
         Some(TaskId::new(task))
     }
 }
 
-ghost use Rattle.dv_clock.specs.Turns.{turn_from, turn_with, turn_without, found_from};
+ghost use Rattle.std.specs.Prelude.{◌<◌, ◌+◌, ◌^◌, Some};
+ghost use Rattle.dv_clock.specs.Turns.{turn_from, found_from, place_joined, place_left, Joined};
 
-/// Whose turn it is, with the number under which it joined.
+/// The first that is looked for from a number on, with its own number.
 #[tactic(auto, using(crate::proofs::TurnsLemmas::between_from))]
-fn turn(order: &BTreeMap<u64, u32>, next: u64) -> Option<(u64, u32)>
-    ensures { result ≡ turn_from (found_from next order.now.entries) order.now.entries }
+fn found_from(order: &BTreeMap<u64, u32>, next: u64) -> Option<(u64, u32)>
+    ensures { result ≡ found_from next order.now.entries }
 {
     match order.range(next..).next() {
         Some((number, task)) => Some((*number, *task)),
+        None => None,
+    }
+}
+
+/// Whose turn it is, with the number under which it joined.
+fn turn(order: &BTreeMap<u64, u32>, next: u64) -> Option<(u64, u32)>
+    ensures { result ≡ turn_from (found_from next order.now.entries) order.now.entries }
+{
+    match found_from(order, next) {
+        Some(found) => Some(found),
         None => match order.first_key_value() {
             Some((number, task)) => Some((*number, *task)),
             None => None,
@@ -141,42 +169,62 @@ fn turn(order: &BTreeMap<u64, u32>, next: u64) -> Option<(u64, u32)>
     }
 }
 
-/// Whose turn it is once another has joined, last: still the same task's, unless none has a turn
-/// left in this round.
-fn turn_with(turn: Option<(u64, u32)>, next: u64, last: (u64, u32)) -> Option<(u64, u32)>
-    ensures { result ≡ turn_with next turn last }
+/// The place once a task has joined under a number, last.
+fn place_joined(place: Place, number: u64) -> Place
+    requires room { number + 1 < 2 ^ 64 }
+    ensures { result ≡ place_joined number place }
 {
-    match turn {
-        Some(found) => {
-            if found.0 < next {
-                Some(last)
-            } else {
-                Some(found)
-            }
+    if place.beyond == 0 {
+        place
+    } else {
+        Place {
+            next: number + 1,
+            beyond: place.beyond - 1,
         }
-        None => Some(last),
     }
 }
 
-/// Whose turn it is once the task with a number has left: it is looked for where it was that task's.
-fn turn_without(
-    order: &BTreeMap<u64, u32>,
-    next: u64,
-    was: Option<(u64, u32)>,
-    gone: u64,
-) -> Option<(u64, u32)>
+/// The place once the task with a number has left these.
+fn place_left(order: &BTreeMap<u64, u32>, rule: TurnRule, place: Place, number: u64) -> Place
+    requires found { (j : Joined) → found_from place.next order.now.entries ≡ Some j
+        → j.0 + 1 < 2 ^ 64 }
+    requires beyond { place.beyond + 1 < 2 ^ 64 }
     ensures { result
-        ≡ turn_without gone was (turn_from (found_from next order.now.entries) order.now.entries) }
+        ≡ place_left rule number (found_from place.next order.now.entries) place }
 {
-    match was {
-        Some((number, task)) => {
-            if number == gone {
-                turn(order, next)
+    match rule {
+        TurnRule::Earlier => place,
+        TurnRule::Fair => match found_from(order, place.next) {
+            Some(_) => place,
+            None => Place { next: 0, beyond: 0 },
+        },
+        TurnRule::Twisted => {
+            if number < place.next {
+                place_stayed(found_from(order, place.next), place)
             } else {
-                Some((number, task))
+                place
             }
         }
-        None => None,
+    }
+}
+
+ghost use Rattle.dv_clock.specs.Turns.{place_stayed};
+
+/// The place once a task has left that stood before it, where this is found from the place on.
+fn place_stayed(found: Option<(u64, u32)>, place: Place) -> Place
+    requires found { (j : Joined) → found ≡ Some j → j.0 + 1 < 2 ^ 64 }
+    requires beyond { place.beyond + 1 < 2 ^ 64 }
+    ensures { result ≡ place_stayed found place }
+{
+    match found {
+        Some((skipped, _)) => Place {
+            next: skipped + 1,
+            beyond: place.beyond,
+        },
+        None => Place {
+            next: place.next,
+            beyond: place.beyond + 1,
+        },
     }
 }
 

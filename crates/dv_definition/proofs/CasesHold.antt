@@ -1,8 +1,10 @@
 -- The telling cases, each worked out.
-use Rattle.std.proofs.Common.{◌≡◌, ℕ, false, [], Option, None, Some, refl}
+use Rattle.std.proofs.Common.{◌≡◌, ℕ, nat_eq, arith, true, false, [], Option, None, Some, refl}
 use Rattle.dv_definition.specs.Cases.{TokensAreWaitedFor, FullQueuesRefuse, FiredListsStay, TurnsFollow, EndedTasksStay}
 use Rattle.dv_definition.specs.Cases.{NameErrorsAreThrown, ErrbacksAreForFailures, ManyJobsAreRefused}
+use Rattle.dv_definition.specs.Cases.{FairTurnsGoRound, JoinersWantTicks}
 use Rattle.dv_definition.specs.Cases.{FailuresOfCallsAreTold, StoppedOnesTakeNone, TurnsTakeBodies, UnmetRunsEnd}
+use Rattle.std.proofs.lemmas.Bool.Decides.{nat_tests}
 use Rattle.dv_definition.specs.Rule.{Finds, Fires, run}
 use Rattle.dv_definition.specs.Words.{finished, if_unfired}
 use Rattle.dv_objects.specs.declared.performed.Performed.TheVariants.{Done}
@@ -38,6 +40,14 @@ ended_tasks_stay t e w over = rw over refl
 
 pub stopped_ones_take_none : StoppedOnesTakeNone
 stopped_ones_take_none k t w c x is stopped there unpaused = rw (is, stopped, there, unpaused) refl
+
+pub joiners_want_ticks : JoinersWantTicks
+joiners_want_ticks k t w c is runs ticks twisted none some = rw (is, runs, ticks, twisted, none, some) refl
+
+pub fair_turns_go_round : FairTurnsGoRound
+fair_turns_go_round a b other =
+    let same : nat_eq b b ≡ true = grind (arith, nat_tests) in
+    rw (other, same) refl
 
 pub name_errors_are_thrown : NameErrorsAreThrown
 name_errors_are_thrown i name p w none = rw none refl

@@ -4,11 +4,17 @@ use Rattle.std.proofs.Common.{Option, None, Some, slice_get, slice_set, nat_eq, 
 use Rattle.std.specs.Option.{option_map, option_map_or}
 use Rattle.dv_clock.specs.Clock.{Upcoming, due_at, first_from, first_of, upcoming}
 use Rattle.dv_clock.specs.declared.call.Call.{Call}
-use Rattle.dv_definition.specs.Conditions.{CallsComeInTurn, CancelsReach, EndsLeave, FailuresAreThrown, ListsFire}
+use Rattle.dv_clock.specs.Turns.{Turns, position_left}
+use Rattle.dv_definition.specs.Conditions.{CallsComeInTurn, CancelsReach, EndsLeave, FailingEndsThrow}
+use Rattle.dv_definition.specs.Conditions.{FailuresAreThrown, ListsFire, TasksLeave}
+use Rattle.dv_definition.specs.Definition.{position_once_left}
+use Rattle.dv_script.specs.declared.turn_rule.TurnRule.{TurnRule}
+use Rattle.dv_script.specs.declared.turn_rule.TurnRule.TheVariants.{Earlier, Fair, Twisted}
 use Rattle.dv_definition.specs.Definition.{all_fired, caught_by, earlier, end_of_waiting, first_call, reached_by}
-use Rattle.dv_definition.specs.Definition.{second_of, still_to_run}
+use Rattle.dv_definition.specs.Definition.{left, second_of, still_to_run, thrown}
 use Rattle.dv_definition.specs.Rule.{found}
-use Rattle.dv_inline.specs.Position.{Position, ahead, class_caught, left_to, second_for, thrown_to}
+use Rattle.dv_inline.specs.Meaning.{thrown_by}
+use Rattle.dv_inline.specs.Position.{Position, ahead, class_caught, ended_with, left_to, second_for, thrown_to}
 use Rattle.dv_inline.specs.declared.open.Catch.{Catch}
 use Rattle.dv_inline.specs.declared.open.Inside.{Inside}
 use Rattle.dv_inline.specs.declared.open.Inside.TheVariants as inside
@@ -167,3 +173,28 @@ left_same (inside.Ending how) v outer again rest opens p e = e
 pub ends_leave : EndsLeave
 ends_leave v [] p = refl
 ends_leave v (around ∷ opens) p = left_same around.inside v _ _ around.rest opens p (ends_leave v opens p)
+
+-- leaving
+position_is : (rule : TurnRule) (task : ℕ) (t : Turns)
+    → position_left rule task t ≡ position_once_left rule task t
+position_is Earlier task t = refl
+position_is Fair task t = refl
+position_is Twisted task t = refl
+
+pub tasks_leave : TasksLeave
+tasks_leave task t among = rw (among, position_is t.rule task t) refl
+
+-- after an end
+after_same : (o : Option Failure) (v : Value) (p : Position)
+    → ended_with o v p ≡ found o (left v p.opens p) (λ failure. thrown failure p.opens p)
+after_same None v p = ends_leave v p.opens p
+after_same (Some failure) v p = failures_thrown failure p.opens p
+
+by_ends : (throws : Bool) (v : Value) (p : Position)
+    → ended_with (thrown_by throws v) v p
+    ≡ found (if throws then failure_in v else None) (left v p.opens p) (λ failure. thrown failure p.opens p)
+by_ends true v p = after_same (failure_in v) v p
+by_ends false v p = ends_leave v p.opens p
+
+pub failing_throw : FailingEndsThrow
+failing_throw v p = by_ends p.ends_throw v p

@@ -1,10 +1,10 @@
 -- The telling case of each section of the page: what its rule leaves there, worked out by hand.
-use Rattle.std.specs.Prelude.{◌≡◌, ℕ, true, false, List, [], ◌∷◌, ◌++◌, length, Option, None, Some, slice_get}
+use Rattle.std.specs.Prelude.{◌≡◌, ℕ, nat_eq, true, false, List, [], ◌∷◌, ◌++◌, length, Option, None, Some, slice_get}
 use Rattle.dv_clock.specs.declared.due.Due.TheVariants as what
 use Rattle.dv_definition.specs.Definition.{add, cancel_reached, acquire, put_in, deferred_of, run_with, report}
 use Rattle.dv_definition.specs.Definition.{add_timeout, take_turn, end_turn, step_ended, await, thread, settle_by}
 use Rattle.dv_definition.specs.Definition.{carry_out, act}
-use Rattle.dv_definition.specs.Definition.{end_task, joined_in, perform_rest, run_next}
+use Rattle.dv_definition.specs.Definition.{end_task, joined_in, perform_rest, position_once_left, run_next}
 use Rattle.dv_definition.specs.Rule.{Fires, run, ◌after_which◌}
 use Rattle.dv_definition.specs.Scripts.{judge}
 use Rattle.dv_definition.specs.Words.{◌and◌, goes_through, is_over, makes_deferred, performs}
@@ -14,7 +14,8 @@ use Rattle.dv_frames.specs.declared.frame.Inlining.TheVariants.{Goes}
 use Rattle.dv_frames.specs.declared.frame.Purpose.TheVariants.{Named, Turning}
 use Rattle.dv_inline.specs.Position.{Position, answered}
 use Rattle.dv_journal.specs.declared.entry.Entry.TheVariants as entry
-use Rattle.dv_objects.specs.Cooperator.{Cooperator}
+use Rattle.dv_objects.specs.Cooperator.{Cooperator, is_empty}
+use Rattle.dv_script.specs.declared.turn_rule.TurnRule.TheVariants.{Fair, Twisted}
 use Rattle.dv_objects.specs.Pair.{Pair, errback, holding, watching, ending}
 use Rattle.dv_objects.specs.Refusals.{overflow}
 use Rattle.dv_objects.specs.Works.{is_full}
@@ -32,7 +33,7 @@ use Rattle.dv_script.specs.declared.action.Action.{Action}
 use Rattle.dv_script.specs.declared.action.Action.TheOpen.{Action-F}
 use Rattle.dv_script.specs.declared.body.Body.{Body}
 use Rattle.dv_script.specs.declared.body.End.{End}
-use Rattle.dv_script.specs.declared.expected.Expected.{Expected}
+use Rattle.dv_value.specs.declared.expected.Expected.{Expected}
 use Rattle.dv_script.specs.declared.work.Work.{Work}
 use Rattle.dv_store.specs.declared.store.Step.TheVariants.{Handed}
 use Rattle.dv_value.specs.Builtin.{name_error}
@@ -120,6 +121,24 @@ StoppedOnesTakeNone =
     → slice_get w.objects.cooperators.tasks t ≡ Some x → x.pauses ≡ 0
     → run (joined_in k t) w ≡ run (end_task t Halted) w
 
+-- by Twisted's rule a task that joins while a tick is under way has the next tick scheduled at that moment
+abbrev pub JoinersWantTicks : Type 0
+JoinersWantTicks =
+    (k t : ℕ) (w : World) (c : Cooperator) → cooperator_of k w ≡ Some c → c.stopped ≡ false → c.ticking ≡ true
+    → c.turns.rule ≡ Twisted → c.tick ≡ None → is_empty c.turns ≡ false
+    → run (joined_in k t) w ≡ ([], Done, world.schedule_tick k c w)
+
+-- by the fair rule the last of a round that leaves has the first take the next turn, also before one that joins then
+abbrev pub FairTurnsGoRound : Type 0
+FairTurnsGoRound =
+    (a b : ℕ) → nat_eq b a ≡ false
+    → position_once_left Fair b (record { rule = Fair; tasks = a ∷ b ∷ []; position = 2 }) ≡ 0
+
+-- by Twisted's rule the next one's turn is skipped
+abbrev pub TwistedSkips : Type 0
+TwistedSkips =
+    (a b c : ℕ) → position_once_left Twisted a (record { rule = Twisted; tasks = a ∷ b ∷ c ∷ []; position = 1 }) ≡ 1
+
 -- where an inline body awaits a name that isn't bound, NameError is thrown there
 abbrev pub NameErrorsAreThrown : Type 0
 NameErrorsAreThrown =
@@ -162,4 +181,4 @@ FailuresOfCallsAreTold =
 abbrev pub UnmetRunsEnd : Type 0
 UnmetRunsEnd =
     (d : ℕ) (expected : Expected) (w : World) → is_met expected (state_at d w) ≡ false
-    → run (judge d expected) w ≡ ([], Done, world.with_stop (world.tell (entry.Unmet d (state_at d w)) w))
+    → run (judge d expected) w ≡ ([], Done, world.with_stop (world.tell (entry.Unmet d (state_at d w) expected) w))

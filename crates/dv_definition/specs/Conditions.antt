@@ -1,10 +1,11 @@
 -- The steps of the world go by the conditions that stand on the page.
-use Rattle.std.specs.Prelude.{◌≡◌, ℕ, List}
+use Rattle.std.specs.Prelude.{◌≡◌, ℕ, true, List}
 use Rattle.dv_clock.specs.Clock.{Clock, next_call}
-use Rattle.dv_clock.specs.Turns.{Turns, turn_of}
+use Rattle.dv_clock.specs.Turns.{Turns, is_among, turn_of, left as turns_left}
 use Rattle.dv_definition.specs.Definition.{has_to_wait, list_fires_with, may_be_used, next_due, next_turn_at}
-use Rattle.dv_definition.specs.Definition.{left, task_in_turn, thrown, whom_reaches}
-use Rattle.dv_inline.specs.Position.{Position, left_from, thrown_from}
+use Rattle.dv_definition.specs.Definition.{after_end, left, others, position_once_left, task_in_turn, thrown}
+use Rattle.dv_definition.specs.Definition.{whom_reaches}
+use Rattle.dv_inline.specs.Position.{Position, ended_from, left_from, thrown_from}
 use Rattle.dv_inline.specs.declared.open.Open.{Open}
 use Rattle.dv_objects.specs.Looping.{next_due as turn_due}
 use Rattle.dv_objects.specs.Pair.{Pair}
@@ -46,11 +47,22 @@ TurnsAreDue = (x : LoopingCall) (c : Clock) → turn_due x c ≡ next_turn_at x 
 abbrev pub TasksTakeTurns : Type 0
 TasksTakeTurns = (t : Turns) → turn_of t ≡ task_in_turn t
 
+-- when a task leaves those that take turns, the position is where the rule says
+abbrev pub TasksLeave : Type 0
+TasksLeave =
+    (task : ℕ) (t : Turns) → is_among task t.tasks ≡ true
+    → turns_left task t
+    ≡ record { rule = t.rule; tasks = others task t; position = position_once_left t.rule task t }
+
 -- a failure is thrown to where it is caught
 abbrev pub FailuresAreThrown : Type 0
 FailuresAreThrown =
     (failure : Failure) (opens : List Open) (p : Position) → thrown_from failure opens p ≡ thrown failure opens p
 
--- and an end leaves the body by way of each `finally`
+-- a body is left by way of each `finally`
 abbrev pub EndsLeave : Type 0
 EndsLeave = (v : Value) (opens : List Open) (p : Position) → left_from v opens p ≡ left v opens p
+
+-- an end that fails throws its failure, where ends throw
+abbrev pub FailingEndsThrow : Type 0
+FailingEndsThrow = (v : Value) (p : Position) → ended_from v p ≡ after_end v p

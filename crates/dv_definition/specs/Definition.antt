@@ -3,10 +3,12 @@
 -- rule". A step logs its entry, if it has one, and then makes its change (`Steps`). What else rules are made of is in
 -- `Rule` and, with sections 1 to 4, in `Words`.
 use Rattle.std.specs.Prelude.{ℕ, zero, suc, ◌+◌, ◌-◌, ◌*◌, ◌/◌, min, nat_eq, nat_lt, Bool, false, not, ◌&&◌, ◌||◌}
-use Rattle.std.specs.Prelude.{if◌then◌else◌, List, [], ◌∷◌, length}
+use Rattle.std.specs.Prelude.{if◌then◌else◌, List, [], ◌∷◌, length, take}
 use Rattle.std.specs.Prelude.{Option, None, Some, is_none, is_some, option_and_then, slice_get, slice_set}
+use Rattle.std.specs.List.{list_any}
 use Rattle.std.specs.Option.{option_map}
 use Rattle.std.specs.Ordering.{is_gt, nat_cmp, ordering_then}
+use Rattle.std.specs.Set.{remove_key}
 use Rattle.dv_clock.specs.Clock.{Clock, Upcoming, upcoming}
 use Rattle.dv_clock.specs.Turns.{Turns}
 use Rattle.dv_clock.specs.declared.call.Call.{Call}
@@ -21,7 +23,7 @@ use Rattle.dv_definition.specs.Steps.{NewSemaphore, Ask, Release, Forget, NewQue
 use Rattle.dv_definition.specs.Steps.{EndTimer, CallLater, NewLoop, BeginTurn, ScheduleTurn, StopLoop, EndLoop, NewTask}
 use Rattle.dv_definition.specs.Steps.{NewTaskIn}
 use Rattle.dv_definition.specs.Steps.{AwaitTask, SetUnitsIn, Halt}
-use Rattle.dv_definition.specs.Steps.{PauseTask, ResumeTask, HoldTask, SetUnits, KeepTick, BeginTick, EndTick}
+use Rattle.dv_definition.specs.Steps.{PauseTask, ResumeTask, HoldTask, SetUnits, KeepTick, WantTick, BeginTick, EndTick}
 use Rattle.dv_definition.specs.Steps.{AddInline, BeginBody, BeginAwait, Submit, DeliverLater, Put, PutDeferred, TakeDue}
 use Rattle.dv_definition.specs.Steps.{Moves, Cancel, PutInto, GetFrom, ChildFired, CancelCall, ResetCall, TakeStep}
 use Rattle.dv_definition.specs.Steps.{EndTask, ResumeInline, EndAwait}
@@ -30,7 +32,8 @@ use Rattle.dv_definition.specs.Words.{cancels, ends_canceller, makes_deferred, a
 use Rattle.dv_definition.specs.Words.{takes_steps, goes_on, goes_on_with_answer, awaits, tells_failure, runs_due}
 use Rattle.dv_definition.specs.Words.{next_deferred, next_list, next_loop, next_call, next_inline_body, next_job}
 use Rattle.dv_definition.specs.Words.{the_lock, the_queue, the_loop, the_task, the_job, the_body, what_is_awaited}
-use Rattle.dv_definition.specs.Words.{its_value, all_jobs, the_clock, all_classes, its_time_is_over, halts, next_task}
+use Rattle.dv_definition.specs.Words.{its_value, all_jobs, the_clock, all_classes, classes_and_ends, its_time_is_over}
+use Rattle.dv_definition.specs.Words.{halts, next_task}
 use Rattle.dv_definition.specs.Words.{the_cooperator, on_cooperator}
 use Rattle.dv_definition.specs.Words.{if_unfired, if_over, fire_if, fire_with}
 use Rattle.dv_definition.specs.Words.{deferred_or, on_deferred, on_all, on_lock, on_queue, on_call, on_loop, on_task}
@@ -45,7 +48,7 @@ use Rattle.dv_inline.specs.declared.open.Open.{Open}
 use Rattle.dv_inline.specs.declared.request.Request.{Request}
 use Rattle.dv_inline.specs.declared.request.Request.TheVariants.{Do, Await}
 use Rattle.dv_jobs.specs.Works.{value_of as work_value}
-use Rattle.dv_objects.specs.Cooperator.{result_of, how_ended}
+use Rattle.dv_objects.specs.Cooperator.{result_of, how_ended, takes_turns_again}
 use Rattle.dv_objects.specs.Looping.{is_scheduled}
 use Rattle.dv_objects.specs.Pair.{Pair, callback, errback, both, chain, reporting, results, holding, releasing, turning}
 use Rattle.dv_objects.specs.Pair.{resuming, continuing, watching, ending, side_for}
@@ -71,6 +74,8 @@ use Rattle.dv_prims.specs.DeferredList.{succeeded}
 use Rattle.dv_prims.specs.Queue.{may_put, may_get}
 use Rattle.dv_prims.specs.Tokens.{has_free, is_unheld, first_waiting}
 use Rattle.dv_prims.specs.declared.gather.Flags.{Flags}
+use Rattle.dv_script.specs.declared.turn_rule.TurnRule.{TurnRule}
+use Rattle.dv_script.specs.declared.turn_rule.TurnRule.TheVariants.{Earlier, Fair, Twisted}
 use Rattle.dv_script.specs.declared.action.Action.{Action, out-Action}
 use Rattle.dv_script.specs.declared.action.Action.TheOpen.{Action-F}
 use Rattle.dv_script.specs.declared.body.Body.{Body}
@@ -410,7 +415,7 @@ notify_all t [] = []
 notify_all t (d ∷ ds) = notifies d t and tells_failure and notify_all t ds
 
 -- ends a task, unless it has ended, and fires the waiters for its end. `KeepTick` has the next tick of its Cooperator
--- scheduled while a task takes turns there, and no tick while none does
+-- scheduled while a task takes turns there, and no tick while none does; while a tick is under way it schedules none
 abbrev pub end_task : ℕ → TaskEnd → Rule
 end_task t end =
     the_task t λ x.
@@ -420,9 +425,10 @@ end_task t end =
 abbrev pub halt_task : ℕ → Rule
 halt_task t = the_task t λ x. If (nat_eq x.pauses 0) (end_task t Halted) finished
 
--- after a task has joined a Cooperator: it takes turns there; in one that was stopped it ends
+-- after a task has joined a Cooperator: it takes turns there; in one that was stopped it ends. `WantTick` has the next
+-- tick scheduled, unless one is, or one is under way; by Twisted's rule also while one is under way
 abbrev pub joined_in : ℕ → ℕ → Rule
-joined_in k t = the_cooperator k λ c. If c.stopped (halt_task t) (KeepTick k next finished)
+joined_in k t = the_cooperator k λ c. If c.stopped (halt_task t) (WantTick k next finished)
 
 -- makes a task in a Cooperator that the script names (Twisted: `Cooperator.cooperate`)
 abbrev pub cooperate_in : ℕ → List ℕ → List ℕ → List Body → Rule
@@ -468,12 +474,13 @@ stop_task t =
     Finds x.end (end_task t Stopped) λ end.
     raise (how_ended end)
 
--- raises NotPaused if a task isn't paused. Else resumes it; in a Cooperator that was stopped it ends once it isn't
--- paused any more (Twisted: `CooperativeTask.resume`)
+-- raises NotPaused if a task isn't paused. Else resumes it; once it isn't paused any more, it joins its Cooperator,
+-- unless it has ended (Twisted: `CooperativeTask.resume`)
 abbrev pub resume_task : ℕ → Rule
 resume_task t =
     the_task t λ x.
-    If (nat_eq x.pauses 0) (raise not_paused) (ResumeTask t next joined_in x.of t)
+    If (nat_eq x.pauses 0) (raise not_paused)
+    (ResumeTask t next If (takes_turns_again x) (joined_in x.of t) finished)
 
 -- the Deferred that a task waited for has a value: resumes the task, unless it has ended (Twisted: `CooperativeTask`,
 -- but `hold-on-an-ended-task`)
@@ -496,16 +503,35 @@ abbrev pub step_ended : ℕ → Performed → Rule
 step_ended t p = if_over t finished (after_step t p)
 
 -- the task whose turn it is, among those that take turns in order of joining: the one at the position, or the first if
--- the position is past the end. The step `TakeStep` takes it (Twisted: `Cooperator`, but `skipped-turn`)
+-- the position is at the end or past it. The step `TakeStep` takes it; then the position is that of the task after it.
+-- If no task takes turns, the position is the beginning from then on (Twisted: `Cooperator`)
 abbrev pub task_in_turn : Turns → Option ℕ
 task_in_turn t = slice_get t.tasks (if nat_lt t.position (length t.tasks) then t.position else 0)
+
+-- the tasks that take turns once one has left them
+abbrev pub others : ℕ → Turns → List ℕ
+others task t = remove_key (nat_eq task) t.tasks
+
+-- the position of the task whose turn it was, once one has left: if that stood before it, it is less by one
+abbrev pub position_of_same : ℕ → Turns → ℕ
+position_of_same task t = if list_any (nat_eq task) (take t.position t.tasks) then t.position - 1 else t.position
+
+-- the position once a task has left, by the rule of its Cooperator. In versions 1 and 2 it is still the same task's
+-- turn; at the end of the list, the next that joins has its turn before the first. If fair, it is still the same task's
+-- turn, also if another joins after that. As Twisted, the number stays: if the task that left stood before it, the turn
+-- of one task is skipped. It may be past the end by n then, and n of those that join stand before it (Twisted:
+-- `Cooperator`)
+abbrev pub position_once_left : TurnRule → ℕ → Turns → ℕ
+position_once_left Earlier task t = position_of_same task t
+position_once_left Fair task t =
+    if nat_lt (position_of_same task t) (length (others task t)) then position_of_same task t else 0
+position_once_left Twisted task t = t.position
 
 -- a step of a task: performs its next body, or ends it
 abbrev pub perform_next : ℕ → Option Body → Rule
 perform_next t next_body = Finds next_body (end_task t Finished) λ body. calls (performs None body Null and ends_step t)
 
--- ends a tick of a Cooperator, and schedules the next if a task takes turns (Twisted: `Cooperator`, but
--- `tick-scheduled-in-a-tick`)
+-- ends a tick of a Cooperator, and schedules the next if none is and a task takes turns (Twisted: `Cooperator`)
 abbrev pub tick_ended : ℕ → Rule
 tick_ended k = EndTick k next KeepTick k next finished
 
@@ -525,12 +551,12 @@ tick k units = If (nat_eq units 0) (tick_ended k) (step_of_tick k (units - 1))
 -- makes the Deferred of an inline body, and begins the body
 abbrev pub inline : List ℕ → List Statement → Rule
 inline name statements =
-    all_classes λ classes.
+    classes_and_ends λ classes ends_throw.
     next_inline_body λ id.
     next_deferred λ d.
     AddInline next
     Make (Some name) (Some (canceller.Inline id)) next
-    calls (goes_on (record { id = id; of = d }) (started classes statements))
+    calls (goes_on (record { id = id; of = d }) (started classes ends_throw statements))
 
 -- what follows where a `try` catches a failure: its second statements
 abbrev pub caught_by : List Class → Failure → Inside → Option (List Statement)
@@ -555,7 +581,7 @@ second_of second place rest opens p =
 -- where a body goes on when a failure is thrown: in the innermost `try` that catches it, with its second statements, in
 -- which the failure is active. A `finally` on the way there runs its second statements first, and the failure is thrown
 -- on after them. If nothing catches it, the body ends with the failure. `answered` goes by this (Twisted:
--- `inlineCallbacks`, but `end-in-a-try`)
+-- `inlineCallbacks`)
 abbrev pub thrown : Failure → List Open → Position → Position
 thrown failure [] p = record p { opens = []; value = Null; result = Some (Fault failure) }
 thrown failure (around ∷ opens) p =
@@ -564,13 +590,20 @@ thrown failure (around ∷ opens) p =
     second_of second (inside.Ending (onward.Thrown failure)) around.rest opens p) λ second.
     second_of second (inside.Caught failure) around.rest opens p
 
--- where it goes on when an end leaves it: it is over with what the end gives. A `finally` on the way runs its second
+-- where it goes on when it is left with a result: it is over with that. A `finally` on the way runs its second
 -- statements first
 abbrev pub left : Value → List Open → Position → Position
 left v [] p = record p { opens = []; value = Null; result = Some v }
 left v (around ∷ opens) p =
     found (still_to_run around.inside) (left v opens p) λ second.
     second_of second (inside.Ending (onward.Left v)) around.rest opens p
+
+-- where it goes on after an end that gives this: if ends throw, a failure is thrown there. Otherwise the body is left
+-- with it (Twisted: `inlineCallbacks`, but `end-in-a-try`)
+abbrev pub after_end : Value → Position → Position
+after_end v p =
+    found (if p.ends_throw then failure_in v else None) (left v p.opens p) λ failure.
+    thrown failure p.opens p
 
 -- goes on with an answer
 abbrev pub go_with : Inline → Value → Position → Rule
@@ -727,7 +760,7 @@ carry_out itself (Action-F.DelayCall name delay) =
 carry_out itself (Action-F.Loop name of interval at_once body bodies) = loop name of interval at_once body bodies
 carry_out itself (Action-F.StopLoop name) = on_loop name stop_loop
 carry_out itself (Action-F.Units units) = SetUnits units next finished
-carry_out itself (Action-F.Cooperate name bodies) = NewTask name bodies next KeepTick 0 next finished
+carry_out itself (Action-F.Cooperate name bodies) = NewTask name bodies next WantTick 0 next finished
 carry_out itself (Action-F.CooperateIn name of bodies) = on_cooperator of λ k. cooperate_in k name of bodies
 carry_out itself (Action-F.UnitsIn name units) = on_cooperator name λ k. SetUnitsIn k name units next finished
 carry_out itself (Action-F.StopCooperator name) = on_cooperator name (stop_cooperator name)

@@ -20,7 +20,7 @@ use Rattle.dv_posts.specs.declared.posted.Posted.{Posted}
 use Rattle.dv_script.specs.declared.body.Body.{Body}
 use Rattle.dv_script.specs.declared.event.Event.{Event}
 use Rattle.dv_script.specs.declared.event.Event.TheVariants as event
-use Rattle.dv_script.specs.declared.expected.Expected.{Expected}
+use Rattle.dv_value.specs.declared.expected.Expected.{Expected}
 use Rattle.dv_script.specs.declared.script.Script.{Script}
 use Rattle.dv_value.specs.declared.value.Value.{Null}
 use Rattle.dv_world.specs.Expecting.{is_met}
@@ -81,11 +81,11 @@ pub data Occurrence : Type 0 where
   Occurs : (event : Event) → Occurrence
   Posts : (posted : Posted) (body : Body) → Occurrence
 
--- logs what has become of d. If that isn't what the script expects, the run ends
+-- logs what has become of d. If that isn't what the script expects, it logs that, too, and the run ends
 abbrev pub judge : ℕ → Expected → Rule
 judge d expected =
     its_state d λ state.
-    If (is_met expected state) (TellMet d state next finished) (TellUnmet d state next StopRun next finished)
+    If (is_met expected state) (TellMet d state next finished) (TellUnmet d state expected next StopRun next finished)
 
 -- the same of the Deferred of a name. If the name isn't bound, that is logged, and the run ends
 abbrev pub expect : List ℕ → Expected → Rule
@@ -152,5 +152,6 @@ occurrences callers (event.Drain most ∷ events) batches =
 -- a script leads, where these batches of posts are taken, from a world in which nothing is made to this one
 abbrev pub Leads : Script → List Batch → World → Type 0
 Leads script batches after =
-    let first = first_world script.classes script.bodies script.limit script.cooperator script.cooperators in
+    let first =
+    first_world script.classes script.bodies script.ends_throw script.limit script.cooperator script.cooperators in
     Returns (λ go. all_happen go (occurrences script.callers script.events batches) first) after

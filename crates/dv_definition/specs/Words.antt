@@ -194,7 +194,7 @@ its_value d rule = By λ w. rule (value_of d w)
 abbrev pub its_state : ℕ → (State → Rule) → Rule
 its_state d rule = By λ w. rule (state_at d w)
 
--- all jobs that were submitted, the clock, and the classes of failures
+-- all jobs that were submitted, the clock, the classes of failures, and these with whether ends throw
 abbrev pub all_jobs : (List Work → Rule) → Rule
 all_jobs rule = By λ w. rule w.works
 
@@ -203,6 +203,9 @@ the_clock rule = By λ w. rule w.objects.clock
 
 abbrev pub all_classes : (List Class → Rule) → Rule
 all_classes rule = By λ w. rule w.classes
+
+abbrev pub classes_and_ends : (List Class → Bool → Rule) → Rule
+classes_and_ends rule = By λ w. rule w.classes w.ends_throw
 
 -- whether the time of a timer is over
 abbrev pub its_time_is_over : ℕ → (Bool → Rule) → Rule

@@ -63,7 +63,7 @@ visible_bool true = refl
 visible_bool false = refl
 
 -- members between brackets, with a comma before each but the first
-abbrev AllVisible : List (List ℕ) → Type 0
+abbrev pub AllVisible : List (List ℕ) → Type 0
 AllVisible [] = Unit {0}
 AllVisible (text ∷ texts) = IsVisible text × AllVisible texts
 
@@ -77,7 +77,7 @@ visible_rest later (text ∷ texts) all =
     visible_both (comma_if later) (text ++ rest_text true texts) (visible_comma later)
     (visible_both text (rest_text true texts) all.0 (visible_rest true texts all.1))
 
-visible_list : (texts : List (List ℕ)) → AllVisible texts → IsVisible (list_text texts)
+pub visible_list : (texts : List (List ℕ)) → AllVisible texts → IsVisible (list_text texts)
 visible_list texts all = visible_rest false texts all
 
 pub ruleset visible =

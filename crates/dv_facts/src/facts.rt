@@ -97,7 +97,7 @@ impl<'e> Facts<'e> {
             Part::NewName(name) => self.news = News::New(text_of(name)),
             Part::Object(kind, naming, name) => self.add_object(*kind, *naming, name.as_str()),
             Part::Job(number) => self.named = Named::Job(*number),
-            Part::Name(_) | Part::Number(_) | Part::Bound(_) => {}
+            Part::Name(_) | Part::Number(_) | Part::Bound(_) | Part::Expected(_) => {}
             Part::Due(time) => self.due = Some(*time),
             Part::Time(time) => self.news = News::Time(*time),
             Part::Outcome(value) | Part::Value(value) => self.shown = Shown::Value(value),

@@ -11,6 +11,8 @@ use Rattle.dv_value.specs.Failure.{plain_failure}
 use Rattle.dv_value.specs.declared.classes.Class.{Class}
 use Rattle.dv_script.specs.declared.action.ListFlag.{ListFlag}
 use Rattle.dv_script.specs.declared.action.ListFlag.TheVariants as flag
+use Rattle.dv_script.specs.declared.turn_rule.TurnRule.{TurnRule}
+use Rattle.dv_script.specs.declared.turn_rule.TurnRule.TheVariants as turn_rule
 use Rattle.dv_script.specs.declared.action.GatherFlag.{GatherFlag}
 use Rattle.dv_script.specs.declared.action.GatherFlag.TheVariants as gather_flag
 use Rattle.dv_script.specs.declared.limits.TheConstants.{MOST_PLACES}
@@ -164,6 +166,16 @@ gather_flag_named text = if bytes_eq text (codes "consumeErrors") then Some gath
 -- a flag of what is gathered
 abbrev pub gather_flag_at : Data → Option GatherFlag
 gather_flag_at d = option_and_then gather_flag_named (as_str d)
+
+-- the rule of the turns of a Cooperator, by its word
+abbrev pub turn_rule_named : List ℕ → Option TurnRule
+turn_rule_named text =
+    if bytes_eq text (codes "fair") then Some turn_rule.Fair else
+    if bytes_eq text (codes "twisted") then Some turn_rule.Twisted else None
+
+-- the rule of the turns of a Cooperator
+abbrev pub turn_rule_at : Data → Option TurnRule
+turn_rule_at d = option_and_then turn_rule_named (as_str d)
 
 -- a word, and what comes with it
 unfoldable pub call_at : Data → Option (List ℕ × Items)

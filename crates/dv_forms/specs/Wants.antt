@@ -18,7 +18,7 @@ use Rattle.dv_clock.specs.declared.limits.TheConstants.{MOST_DELAY}
 use Rattle.dv_script.specs.declared.limits.TheConstants.{MOST_PLACE, MOST_UNITS, MOST_WORKERS}
 use Rattle.dv_forms.specs.Limits.{most_limit}
 use Rattle.dv_forms.specs.declared.versions.TheConstants.{BODIES_SINCE, COOPERATORS_SINCE, FIRST_VERSION, LAST_VERSION}
-use Rattle.dv_forms.specs.declared.versions.TheConstants.{TURNS_SINCE}
+use Rattle.dv_forms.specs.declared.versions.TheConstants.{RULES_SINCE, TURNS_SINCE}
 use Rattle.dv_forms.specs.declared.failure.TheConstants.{MOST_INDEX}
 
 -- the name of a Deferred that is looked up
@@ -115,7 +115,7 @@ script_want version key =
     if bytes_eq key (codes "events") then want.Array item_of.Event else
     if bytes_eq key (codes "limit") then want.Leaf (leaf.Number 0 (most_limit version)) else
     if bytes_eq key (codes "classes") then want.Array item_of.Declaration else
-    if bytes_eq key (codes "cooperator") then want.Keyed keyed.Cooperator else
+    if bytes_eq key (codes "cooperator") then want.Keyed (keyed.Cooperator version) else
     if bytes_eq key (codes "callers") then want.Array item_of.Caller else
     if bytes_eq key (codes "pools")
     then (if nat_eq version 1 then want.Other (keyed.Script version) else want.Array item_of.Pool) else
@@ -127,11 +127,13 @@ script_want version key =
     if bytes_eq key (codes "comment") then a_comment else want.Other (keyed.Script version)
 
 -- what the value of a cooperator's key is
-abbrev pub cooperator_want : List ℕ → Want
-cooperator_want key =
+abbrev pub cooperator_want : ℕ → List ℕ → Want
+cooperator_want version key =
     if bytes_eq key (codes "units") then want.Leaf (leaf.Number 1 MOST_UNITS) else
     if bytes_eq key (codes "delay") then want.Leaf (leaf.Number 1 MOST_DELAY) else
-    if bytes_eq key (codes "comment") then a_comment else want.Other keyed.Cooperator
+    if bytes_eq key (codes "turns")
+    then (if nat_lt version RULES_SINCE then want.Other (keyed.Cooperator version) else want.Leaf leaf.Turns) else
+    if bytes_eq key (codes "comment") then a_comment else want.Other (keyed.Cooperator version)
 
 -- what the value of a body's key is
 abbrev pub body_want : ℕ → List ℕ → Want
@@ -160,7 +162,7 @@ member_want (object ms) = want.Keyed keyed.Failure
 -- what the value of an object's key is
 abbrev pub key_want : Keyed → List ℕ → Want
 key_want (keyed.Script version) key = script_want version key
-key_want keyed.Cooperator key = cooperator_want key
+key_want (keyed.Cooperator version) key = cooperator_want version key
 key_want (keyed.Body since) key = body_want since key
 key_want keyed.Failure key = failure_want key
 
@@ -172,7 +174,9 @@ keys_in (keyed.Script version) =
     (if nat_eq version 2 then codes "pools" ∷ codes "classes" ∷ codes "callers" ∷ codes "events" ∷ codes "comment" ∷ []
     else codes "cooperators" ∷ codes "pools" ∷ codes "classes" ∷ codes "bodies" ∷ codes "callers" ∷ codes "events"
     ∷ codes "comment" ∷ []))
-keys_in keyed.Cooperator = codes "units" ∷ codes "delay" ∷ codes "comment" ∷ []
+keys_in (keyed.Cooperator version) =
+    codes "units" ∷ codes "delay"
+    ∷ (if nat_lt version RULES_SINCE then codes "comment" ∷ [] else codes "turns" ∷ codes "comment" ∷ [])
 keys_in (keyed.Body since) = codes "do" ∷ codes "end" ∷ codes "comment" ∷ []
 keys_in keyed.Failure = codes "fail" ∷ codes "index" ∷ codes "message" ∷ codes "sub" ∷ []
 
@@ -181,7 +185,8 @@ abbrev pub pair_wants : PairKind → List Want
 pair_wants pair.Declaration = want.Leaf (leaf.New named.Class) ∷ a_text ∷ []
 pair_wants pair.Pool = want.Leaf (leaf.New named.Pool) ∷ want.Leaf (leaf.Number 0 MOST_WORKERS) ∷ []
 pair_wants pair.Body = want.Leaf (leaf.New named.Body) ∷ a_body ∷ []
-pair_wants pair.Cooperator = want.Leaf (leaf.New named.Cooperator) ∷ want.Keyed keyed.Cooperator ∷ []
+pair_wants pair.Cooperator =
+    want.Leaf (leaf.New named.Cooperator) ∷ want.Keyed (keyed.Cooperator COOPERATORS_SINCE) ∷ []
 
 -- the callers of a script
 abbrev pub all_callers : Want

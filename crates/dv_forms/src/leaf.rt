@@ -7,6 +7,7 @@ ghost use Rattle.dv_forms.specs.Forms.{has_only, is_comment};
 ghost use Rattle.dv_forms.specs.Answer.{Reads, Gives};
 ghost use Rattle.dv_forms.specs.Parts.{text_at, integer_at, number_at, bound_at, class_at};
 ghost use Rattle.dv_forms.specs.Parts.{list_flag, list_flag_at, gather_flag_named, gather_flag_at};
+ghost use Rattle.dv_forms.specs.Parts.{turn_rule_named, turn_rule_at};
 ghost use Rattle.dv_forms.specs.Parts.{list_at, call_at, none, first, if_any, one, one_or_two, two};
 ghost use Rattle.dv_forms.specs.Parts.{two_or_three, three, four, five, fields_at};
 
@@ -15,6 +16,7 @@ use dv_document::places::{Elements, Json, Members};
 use dv_document::value::Kind;
 use dv_script::action::{GatherFlag, ListFlag};
 use dv_script::limits::{MOST_PLACE, MOST_PLACES};
+use dv_script::turn_rule::TurnRule;
 use dv_value::class_id::ClassId;
 use dv_value::classes::Classes;
 use dv_value::items::Items;
@@ -165,6 +167,26 @@ pub fn list_flags_in(alloc: Global, json: Json<'_>) -> Result<Items<ListFlag>, S
         flags.push(list_flag(item)?)?;
     }
     Ok(flags)
+}
+
+fn turn_rule_named(word: &str) -> Option<TurnRule>
+    ensures { result ≡ turn_rule_named word.now }
+{
+    match word {
+        "fair" => Some(TurnRule::Fair),
+        "twisted" => Some(TurnRule::Twisted),
+        _ => None,
+    }
+}
+
+/// The rule of the turns of a Cooperator.
+pub fn turn_rule(json: Json<'_>) -> Result<TurnRule, ShapeFault>
+    ensures { Reads result (turn_rule_at (view json.entry)) }
+{
+    let Some(word) = json.as_str() else {
+        return Err(ShapeFault::BadShape);
+    };
+    turn_rule_named(word).ok_or(ShapeFault::BadShape)
 }
 
 fn gather_flag_named(word: &str) -> Option<GatherFlag>

@@ -25,6 +25,13 @@ pub const TIMEOUTS_SINCE: u32 = 3;
 /// The first version in which the turns of a loop may have bodies of their own.
 pub const TURNS_SINCE: u32 = 3;
 
+/// The first version in which a Cooperator has a rule of its turns.
+pub const RULES_SINCE: u32 = 3;
+
+/// The first version in which an end of an inline body that fails throws its failure there, where
+/// a `try` may catch it.
+pub const ENDS_THROW_SINCE: u32 = 3;
+
 /// The first version in which an object may have a comment.
 pub const COMMENTS_SINCE: u32 = 3;
 

@@ -8,7 +8,9 @@ ghost use Rattle.dv_forms.specs.Wants.{want_for, array_or_body, has_items};
 
 use crate::failure::MOST_INDEX;
 use crate::limits::most_limit;
-use crate::versions::{BODIES_SINCE, COOPERATORS_SINCE, FIRST_VERSION, LAST_VERSION, TURNS_SINCE};
+use crate::versions::{
+    BODIES_SINCE, COOPERATORS_SINCE, FIRST_VERSION, LAST_VERSION, RULES_SINCE, TURNS_SINCE,
+};
 use dv_clock::limits::MOST_DELAY;
 use dv_document::places::Json;
 use dv_document::value::Kind;
@@ -51,6 +53,8 @@ pub enum Leaf {
     Bound,
     ListFlag,
     GatherFlag,
+    /// The rule of the turns of a Cooperator.
+    Turns,
     /// A text that is read past.
     Comment,
 }
@@ -85,7 +89,8 @@ pub enum PairKind {
 pub enum Keyed {
     /// A script of this version.
     Script(u32),
-    Cooperator,
+    /// A Cooperator in a script of this version.
+    Cooperator(u32),
     /// A body, at a place that may have one from this version on.
     Body(u32),
     /// A failure that is a member of an array of a value, or that is in one.
@@ -231,7 +236,7 @@ impl PairKind {
             ],
             PairKind::Cooperator => &[
                 Want::Leaf(Leaf::New(Object::Cooperator)),
-                Want::Keyed(Keyed::Cooperator),
+                Want::Keyed(Keyed::Cooperator(COOPERATORS_SINCE)),
             ],
         }
     }
@@ -245,7 +250,7 @@ fn script_want(version: u32, key: &str) -> Want
         "events" => Want::Array(Item::Event),
         "limit" => Want::Leaf(Leaf::Number(0, most_limit(version))),
         "classes" => Want::Array(Item::Declaration),
-        "cooperator" => Want::Keyed(Keyed::Cooperator),
+        "cooperator" => Want::Keyed(Keyed::Cooperator(version)),
         "callers" => Want::Array(Item::Caller),
         "pools" => if version == 1 {
             Want::Other(Keyed::Script(version))
@@ -267,14 +272,19 @@ fn script_want(version: u32, key: &str) -> Want
     }
 }
 
-fn cooperator_want(key: &str) -> Want
-    ensures { result ≡ cooperator_want key.now }
+fn cooperator_want(version: u32, key: &str) -> Want
+    ensures { result ≡ cooperator_want version key.now }
 {
     match key {
         "units" => Want::Leaf(Leaf::Number(1, u64::from(MOST_UNITS))),
         "delay" => Want::Leaf(Leaf::Number(1, MOST_DELAY)),
+        "turns" => if version < RULES_SINCE {
+            Want::Other(Keyed::Cooperator(version))
+        } else {
+            Want::Leaf(Leaf::Turns)
+        },
         "comment" => Want::Leaf(Leaf::Comment),
-        _ => Want::Other(Keyed::Cooperator),
+        _ => Want::Other(Keyed::Cooperator(version)),
     }
 }
 
@@ -320,7 +330,7 @@ impl Keyed {
     {
         match self {
             Keyed::Script(version) => script_want(version, key),
-            Keyed::Cooperator => cooperator_want(key),
+            Keyed::Cooperator(version) => cooperator_want(version, key),
             Keyed::Body(since) => body_want(since, key),
             Keyed::Failure => failure_want(key),
         }
@@ -362,7 +372,11 @@ impl Keyed {
                 "events",
                 "comment",
             ],
-            Keyed::Cooperator => &["units", "delay", "comment"],
+            Keyed::Cooperator(version) => if version < RULES_SINCE {
+                &["units", "delay", "comment"]
+            } else {
+                &["units", "delay", "turns", "comment"]
+            },
             Keyed::Body(_) => &["do", "end", "comment"],
             Keyed::Failure => &["fail", "index", "message", "sub"],
         }

@@ -16,8 +16,8 @@ use Rattle.dv_value.specs.declared.failure.Failure.{Failure}
 use Rattle.dv_value.specs.declared.classes.Class.{Class}
 use Rattle.dv_script.specs.declared.body.End.{End}
 use Rattle.dv_script.specs.declared.body.End.TheVariants.{Return, Plus, Raise, Trap, Wait, Run, Throw}
-use Rattle.dv_script.specs.declared.expected.Expected.{Expected}
-use Rattle.dv_script.specs.declared.expected.Expected.TheVariants as expected
+use Rattle.dv_value.specs.declared.expected.Expected.{Expected}
+use Rattle.dv_value.specs.declared.expected.Expected.TheVariants as expected
 use Rattle.dv_script.specs.declared.work.Work.{Work}
 use Rattle.dv_script.specs.declared.action.ListFlag.{ListFlag}
 use Rattle.dv_script.specs.declared.action.GatherFlag.{GatherFlag}
@@ -47,6 +47,10 @@ use Rattle.dv_grammar.proofs.WordsLemmas.{◌&◌, EachWord, found_word}
 use Rattle.dv_script.specs.declared.work.Work.TheVariants as job
 use Rattle.dv_script.specs.declared.action.ListFlag.TheVariants as flag
 use Rattle.dv_script.specs.declared.action.GatherFlag.TheVariants as gather_flag
+use Rattle.dv_script.specs.declared.turn_rule.TurnRule.{TurnRule}
+use Rattle.dv_script.specs.declared.turn_rule.TurnRule.TheVariants as turn_rule
+use Rattle.dv_forms.specs.Parts.{turn_rule_at}
+use Rattle.dv_grammar.specs.Grammar.{IsTurnRule, fair_turns, twisted_turns}
 
 -- ---- items
 
@@ -209,6 +213,12 @@ list_flag_is (string text) x e =
     word_found IsListFlag text (codes "fireOnOneErrback") flag.FireOnOneErrback x _ fires_on_errback (
     word_found IsListFlag text (codes "consumeErrors") flag.ConsumeErrors x _ consumes_errors (λ g. cc))) e
 list_flag_is _ x e = cc
+
+pub turn_rule_is : (d : Data) (x : TurnRule) → turn_rule_at d ≡ Some x → IsTurnRule d x
+turn_rule_is (string text) x e =
+    word_found IsTurnRule text (codes "fair") turn_rule.Fair x _ fair_turns (
+    word_found IsTurnRule text (codes "twisted") turn_rule.Twisted x _ twisted_turns (λ g. cc)) e
+turn_rule_is _ x e = cc
 
 pub gather_flag_is : (d : Data) (x : GatherFlag) → gather_flag_at d ≡ Some x → IsGatherFlag d x
 gather_flag_is (string text) x e =
@@ -491,7 +501,8 @@ unfolding outcome_at
 sound_outcome table d x e =
     bind (call_at d) _ x e (λ c c_is c_then.
     bind (outcome_word c.0) _ x c_then (λ w w_is w_then.
-    rw (call_is d c c_is) (found_word (IsOutcomeRead table) outcome_words (sound_outcomes table) c.0 w w_is c.1 x w_then)))
+    rw (call_is d c c_is)
+    (found_word (IsOutcomeRead table) outcome_words (sound_outcomes table) c.0 w w_is c.1 x w_then)))
 
 -- ---- lists, leaves
 
@@ -620,6 +631,10 @@ complete_list_flag _ _ fires_on_callback = refl
 complete_list_flag _ _ fires_on_errback = refl
 complete_list_flag _ _ consumes_errors = refl
 
+pub complete_turn_rule : (d : Data) (rule : TurnRule) → IsTurnRule d rule → turn_rule_at d ≡ Some rule
+complete_turn_rule _ _ fair_turns = refl
+complete_turn_rule _ _ twisted_turns = refl
+
 pub complete_gather_flag : (d : Data) (flag : GatherFlag) → IsGatherFlag d flag → gather_flag_at d ≡ Some flag
 complete_gather_flag _ _ gathers_errors = refl
 
@@ -641,7 +656,8 @@ complete_work table _ _ (gives d v h) = rw (complete_value table h) refl
 complete_work table _ _ (fails c class text h) = rw (complete_class table c class h) refl
 complete_work table _ _ (sums d n h) = rw (complete_number 0 MOST_SUM d n h) refl
 
-pub complete_outcome : (table : List Class) (d : Data) (x : Expected) → IsOutcome table d x → outcome_at table d ≡ Some x
+pub complete_outcome : (table : List Class) (d : Data) (x : Expected) → IsOutcome table d x
+    → outcome_at table d ≡ Some x
 unfolding outcome_at outcome_of call_at none first one two sole pair
 complete_outcome table _ _ is_unfired = refl
 complete_outcome table _ _ is_waiting = refl

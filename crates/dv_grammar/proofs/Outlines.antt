@@ -14,7 +14,8 @@ use Rattle.dv_forms.specs.Answer.{with_front}
 use Rattle.dv_forms.specs.Repeat.{repeat_at}
 use Rattle.dv_grammar.specs.declared.draft.Draft.{Draft}
 use Rattle.dv_grammar.specs.Grammar.{keys_of, plain_cooperator, repeated}
-use Rattle.dv_grammar.specs.Shape.{all_listed, event_at, events_at, events_in, listed_at, listed_by, script_at, script_by}
+use Rattle.dv_grammar.specs.Shape.{all_listed, event_at, events_at, events_in, listed_at, listed_by, script_at}
+use Rattle.dv_grammar.specs.Shape.{script_by}
 use Rattle.dv_grammar.specs.Shape.{caller_at, cooperator_at, named_body_at, pool_at, named_cooperator_at, times_of}
 
 -- ---- events
@@ -89,7 +90,7 @@ outline d =
     then_same (option_and_then (number_at 1 LAST_VERSION) (get (codes "version") d)) _ _ (λ v.
     then_same (fields_at (keys_of v) d) _ _ (λ t.
     then_same (field USUAL_LIMIT (number_at 0 (most_limit v)) (get (codes "limit") d)) _ _ (λ l.
-    then_same (field plain_cooperator cooperator_at (get (codes "cooperator") d)) _ _ (λ o.
+    then_same (field (plain_cooperator v) (cooperator_at v) (get (codes "cooperator") d)) _ _ (λ o.
     then_same (field [] (list_at named_cooperator_at) (get (codes "cooperators") d)) _ _ (λ w.
     then_same (field [] (list_at pool_at) (get (codes "pools") d)) _ _ (λ q.
     then_same (field [] (list_at declaration_at) (get (codes "classes") d)) _ _ (λ c.

@@ -21,7 +21,11 @@ use Rattle.dv_grammar.specs.declared.draft.Draft.{Draft}
 use Rattle.dv_forms.specs.Forms.{Each, IsList, Field, Key, IsNumber}
 use Rattle.dv_forms.specs.Limits.{most_limit}
 use Rattle.dv_forms.specs.Table.{table_of}
-use Rattle.dv_grammar.specs.Grammar.{AreEvents, cooperator_keys, keys_of, plain_cooperator, IsBody}
+use Rattle.dv_grammar.specs.Grammar.{AreEvents, cooperator_keys, keys_of, plain_cooperator, usual_turns, IsBody}
+use Rattle.dv_grammar.specs.Grammar.{IsTurnRule}
+use Rattle.dv_grammar.proofs.Leaves.{turn_rule_is, complete_turn_rule}
+use Rattle.dv_forms.specs.Parts.{turn_rule_at}
+use Rattle.dv_forms.specs.declared.versions.TheConstants.{COOPERATORS_SINCE}
 use Rattle.dv_grammar.specs.Grammar.{IsDeclaration, declares, IsPool, pools, IsCooperator, IsScript}
 use Rattle.dv_grammar.specs.Grammar.{IsNamedBody, names_body, IsNamedCooperator, names_cooperator}
 use Rattle.dv_forms.specs.Parts.{each, list_at, text_at, number_at, within, call_at, none, first, one, two, sole, pair}
@@ -43,24 +47,29 @@ sound_declaration d x e =
     two_read text_at text_at _ ds x ds_then (λ c f n p items_are n_is p_is made.
     rw (array_is d ds ds_is, items_are, text_is c n n_is, text_is f p p_is, ← made) (declares n p)))
 
-sound_cooperator : (d : Data) (x : Cooperator) → cooperator_at d ≡ Some x → IsCooperator d x
+sound_cooperator : (version : ℕ) (d : Data) (x : Cooperator) → cooperator_at version d ≡ Some x
+    → IsCooperator version d x
 unfolding cooperator_at fields_at
-sound_cooperator (object ms) x e =
-    bind (fields_at cooperator_keys (object ms)) _ x e (λ t t_is t_then.
+sound_cooperator version (object ms) x e =
+    bind (fields_at (cooperator_keys version) (object ms)) _ x e (λ t t_is t_then.
     bind (option_and_then (number_at 1 MOST_UNITS) (get_member (codes "units") ms)) _ x t_then (λ u u_is u_then.
     bind (option_and_then (number_at 1 MOST_DELAY) (get_member (codes "delay") ms)) _ x u_then (λ v v_is v_then.
-    rw (← some_injective v_then) (record {
+    bind (field (usual_turns version) turn_rule_at (get_member (codes "turns") ms)) _ x v_then (λ r r_is r_then.
+    rw (← some_injective r_then) (record {
       members = ms;
       whole = refl;
-      only = fields_is cooperator_keys ms t t_is;
+      only = fields_is (cooperator_keys version) ms t t_is;
       units =
           sound_key u (IsNumber 1 MOST_UNITS) (number_at 1 MOST_UNITS) (number_is 1 MOST_UNITS)
           (get_member (codes "units") ms) u_is;
       delay =
           sound_key v (IsNumber 1 MOST_DELAY) (number_at 1 MOST_DELAY) (number_is 1 MOST_DELAY)
           (get_member (codes "delay") ms) v_is;
-    }))))
-sound_cooperator _ x e = cc
+      turns =
+          sound_field (usual_turns version) r IsTurnRule turn_rule_at turn_rule_is
+          (get_member (codes "turns") ms) r_is;
+    })))))
+sound_cooperator version _ x e = cc
 
 sound_pool : (d : Data) (x : NamedPool) → pool_at d ≡ Some x → IsPool d x
 unfolding pool_at
@@ -73,8 +82,9 @@ sound_named_cooperator : (d : Data) (x : NamedCooperator) → named_cooperator_a
 unfolding named_cooperator_at
 sound_named_cooperator d x e =
     bind (as_array d) _ x e (λ ds ds_is ds_then.
-    two_read text_at cooperator_at _ ds x ds_then (λ c f n k items_are n_is k_is made.
-    rw (array_is d ds ds_is, items_are, text_is c n n_is, ← made) (names_cooperator n f k (sound_cooperator f k k_is))))
+    two_read text_at (cooperator_at COOPERATORS_SINCE) _ ds x ds_then (λ c f n k items_are n_is k_is made.
+    rw (array_is d ds ds_is, items_are, text_is c n n_is, ← made)
+    (names_cooperator n f k (sound_cooperator COOPERATORS_SINCE f k k_is))))
 
 sound_named_body : (table : List Class) (d : Data) (x : NamedBody) → named_body_at table d ≡ Some x
     → IsNamedBody table d x
@@ -97,7 +107,8 @@ sound_script (object ms) draft e =
     bind (fields_at (keys_of v) (object ms)) _ draft v_then (λ t t_is t_then.
     bind (field USUAL_LIMIT (number_at 0 (most_limit v)) (get_member (codes "limit") ms)) _ draft t_then
     (λ l l_is l_then.
-    bind (field plain_cooperator cooperator_at (get_member (codes "cooperator") ms)) _ draft l_then (λ o o_is o_then.
+    bind (field (plain_cooperator v) (cooperator_at v) (get_member (codes "cooperator") ms)) _ draft l_then
+    (λ o o_is o_then.
     bind (field [] (list_at named_cooperator_at) (get_member (codes "cooperators") ms)) _ draft o_then
     (λ w w_is w_then.
     bind (field [] (list_at pool_at) (get_member (codes "pools") ms)) _ draft w_then (λ q q_is q_then.
@@ -120,12 +131,13 @@ sound_script (object ms) draft e =
           (sound_list IsDeclaration declaration_at sound_declaration) (get_member (codes "classes") ms) c_is;
       all_declared = refl;
       table = refl;
+      ends_throw = refl;
       limit =
           sound_field USUAL_LIMIT l (IsNumber 0 (most_limit v)) (number_at 0 (most_limit v))
           (number_is 0 (most_limit v))
           (get_member (codes "limit") ms) l_is;
       cooperator =
-          sound_field plain_cooperator o IsCooperator cooperator_at sound_cooperator
+          sound_field (plain_cooperator v) o (IsCooperator v) (cooperator_at v) (sound_cooperator v)
           (get_member (codes "cooperator") ms) o_is;
       cooperators =
           sound_field [] w (IsList IsNamedCooperator) (list_at named_cooperator_at)
@@ -193,20 +205,23 @@ complete_pool : (d : Data) (p : NamedPool) → IsPool d p → pool_at d ≡ Some
 unfolding pool_at none first one two pair
 complete_pool _ _ (pools name d workers h) = rw (complete_number 0 MOST_WORKERS d workers h) refl
 
-complete_cooperator : (d : Data) (c : Cooperator) → IsCooperator d c → cooperator_at d ≡ Some c
+complete_cooperator : (version : ℕ) (d : Data) (c : Cooperator) → IsCooperator version d c
+    → cooperator_at version d ≡ Some c
 unfolding cooperator_at fields_at
-complete_cooperator d c h =
+complete_cooperator version d c h =
     rw h.whole (rw h.only (rw (
       complete_key c.units (IsNumber 1 MOST_UNITS) (number_at 1 MOST_UNITS) (complete_number 1 MOST_UNITS)
           (get_member (codes "units") h.members) h.units,
       complete_key c.delay (IsNumber 1 MOST_DELAY) (number_at 1 MOST_DELAY) (complete_number 1 MOST_DELAY)
           (get_member (codes "delay") h.members) h.delay,
+      complete_field (usual_turns version) c.turns IsTurnRule turn_rule_at complete_turn_rule
+          (get_member (codes "turns") h.members) h.turns,
     ) refl))
 
 complete_named_cooperator : (d : Data) (c : NamedCooperator) → IsNamedCooperator d c
     → named_cooperator_at d ≡ Some c
 unfolding named_cooperator_at none first one two pair
-complete_named_cooperator _ _ (names_cooperator name d c h) = rw (complete_cooperator d c h) refl
+complete_named_cooperator _ _ (names_cooperator name d c h) = rw (complete_cooperator COOPERATORS_SINCE d c h) refl
 
 complete_callers : (table : List Class) (ms : Members) (callers : List (List Body)) → members_depth ms ≤ max_depth
     → (o : Option Data) → ((d : Data) → o ≡ Some d → depth d ≤ max_depth)
@@ -222,14 +237,16 @@ complete_key_events : (table : List Class) (events : List Event)
 complete_key_events table events None within h = absurd h
 complete_key_events table events (Some d) within h = complete_events table d events (within d refl) h
 
--- a draft whose table, and whether all its classes are declared, are written out
-same_draft : (draft : Draft) (table : List Class) (all : Bool) → draft.script.classes ≡ table → draft.all_declared ≡ all
+-- a draft whose table, and whether all its classes are declared and its ends throw, are written out
+same_draft : (draft : Draft) (table : List Class) (all throws : Bool) → draft.script.classes ≡ table
+    → draft.all_declared ≡ all → draft.script.ends_throw ≡ throws
     → record {
       version = draft.version;
       declared = draft.declared;
       all_declared = all;
       script = record {
         classes = table;
+        ends_throw = throws;
         limit = draft.script.limit;
         cooperator = draft.script.cooperator;
         cooperators = draft.script.cooperators;
@@ -239,7 +256,7 @@ same_draft : (draft : Draft) (table : List Class) (all : Bool) → draft.script.
         events = draft.script.events;
       };
     } ≡ draft
-same_draft draft table all e f = rw (← e, ← f) refl
+same_draft draft table all throws e f g = rw (← e, ← f, ← g) refl
 
 -- a value of a script's shape is read as that script
 pub complete_script : (d : Data) (draft : Draft) → depth d ≤ max_depth → IsScript d draft → script_at d ≡ Some draft
@@ -249,17 +266,22 @@ complete_script d draft deep h =
     let within : (key : List ℕ) (e : Data) → get_member key h.members ≡ Some e → depth e ≤ max_depth =
     (λ key e is. let below : depth e ≤ members_depth h.members = depth-get_member key h.members e is in
     omega (arith, inside, below)) in
-    let bodies : field [] (list_at (named_body_at (table_of draft.version draft.declared))) (get_member (codes "bodies") h.members)
+    let bodies :
+    field [] (list_at (named_body_at (table_of draft.version draft.declared))) (get_member (codes "bodies") h.members)
     ≡ Some draft.script.bodies =
-    complete_named_bodies (table_of draft.version draft.declared) draft.script.bodies (get_member (codes "bodies") h.members)
+    complete_named_bodies (table_of draft.version draft.declared) draft.script.bodies
+    (get_member (codes "bodies") h.members)
     (within (codes "bodies")) (rw h.table at h.bodies) in
-    let callers : field [] (list_at (caller_at (table_of draft.version draft.declared))) (get_member (codes "callers") h.members)
+    let callers :
+    field [] (list_at (caller_at (table_of draft.version draft.declared))) (get_member (codes "callers") h.members)
     ≡ Some draft.script.callers =
     complete_callers (table_of draft.version draft.declared) h.members draft.script.callers (omega (arith, inside))
     (get_member (codes "callers") h.members) (within (codes "callers")) (rw h.table at h.callers) in
-    let events : option_and_then (events_in true (table_of draft.version draft.declared)) (get_member (codes "events") h.members)
+    let events :
+    option_and_then (events_in true (table_of draft.version draft.declared)) (get_member (codes "events") h.members)
     ≡ Some draft.script.events =
-    complete_key_events (table_of draft.version draft.declared) draft.script.events (get_member (codes "events") h.members)
+    complete_key_events (table_of draft.version draft.declared) draft.script.events
+    (get_member (codes "events") h.members)
     (within (codes "events")) (rw h.table at h.events) in
     let version =
     complete_key draft.version (IsNumber 1 LAST_VERSION) (number_at 1 LAST_VERSION) (complete_number 1 LAST_VERSION)
@@ -268,7 +290,8 @@ complete_script d draft deep h =
       complete_field USUAL_LIMIT draft.script.limit (IsNumber 0 (most_limit draft.version))
           (number_at 0 (most_limit draft.version)) (complete_number 0 (most_limit draft.version))
           (get_member (codes "limit") h.members) h.limit,
-      complete_field plain_cooperator draft.script.cooperator IsCooperator cooperator_at complete_cooperator
+      complete_field (plain_cooperator draft.version) draft.script.cooperator (IsCooperator draft.version)
+          (cooperator_at draft.version) (complete_cooperator draft.version)
           (get_member (codes "cooperator") h.members) h.cooperator,
       complete_field [] draft.script.cooperators (IsList IsNamedCooperator) (list_at named_cooperator_at)
           (complete_list IsNamedCooperator named_cooperator_at complete_named_cooperator)
@@ -281,4 +304,4 @@ complete_script d draft deep h =
       bodies,
       callers,
       events,
-    ) (ap Some (same_draft draft _ _ h.table h.all_declared)))))
+    ) (ap Some (same_draft draft _ _ _ h.table h.all_declared h.ends_throw)))))

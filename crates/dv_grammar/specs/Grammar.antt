@@ -2,7 +2,7 @@
 -- objects round it).
 use Rattle.std.specs.Prelude.{◌≡◌, ℕ, zero, suc, nat_eq, nat_lt, if◌then◌else◌, ℤ, Bool, true, List, [], ◌∷◌, ◌++◌}
 use Rattle.std.specs.Prelude.{Option, Some, None, codes}
-use Rattle.std.specs.Prelude.{◌&&◌, min, max}
+use Rattle.std.specs.Prelude.{◌&&◌, min, max, nat_le}
 use Rattle.serde_json.specs.Data.{Data, null, boolean, string, array, object, Items, no_items, item, Members}
 use Rattle.serde_json.specs.Find.{get_member}
 use Rattle.dv_value.specs.declared.failure.Failure.{Failure}
@@ -24,8 +24,8 @@ use Rattle.dv_script.specs.declared.action.Action.{DelayCall, Loop, StopLoop}
 use Rattle.dv_script.specs.declared.action.Action.{Cooperate, WhenDone, PauseTask, StopTask, ResumeTask, Inline, Thread}
 use Rattle.dv_script.specs.declared.action.Action.{ThreadIn, Units, CooperateIn, UnitsIn, StopCooperator}
 use Rattle.dv_script.specs.declared.event.Event.{Event}
-use Rattle.dv_script.specs.declared.expected.Expected.{Expected}
-use Rattle.dv_script.specs.declared.expected.Expected.TheVariants as expected
+use Rattle.dv_value.specs.declared.expected.Expected.{Expected}
+use Rattle.dv_value.specs.declared.expected.Expected.TheVariants as expected
 use Rattle.dv_script.specs.declared.script.Cooperator.{Cooperator}
 use Rattle.dv_script.specs.declared.script.NamedBody.{NamedBody}
 use Rattle.dv_script.specs.declared.script.NamedCooperator.{NamedCooperator}
@@ -34,7 +34,11 @@ use Rattle.dv_script.specs.declared.limits.TheConstants.{MOST_DRAINED, MOST_PLAC
 use Rattle.dv_script.specs.declared.limits.TheConstants.{MOST_WORKERS, USUAL_LIMIT}
 use Rattle.dv_clock.specs.declared.limits.TheConstants.{MOST_DELAY, MOST_TICKS}
 use Rattle.dv_forms.specs.declared.declaration.Declaration.{Declaration}
-use Rattle.dv_forms.specs.declared.versions.TheConstants.{BODIES_SINCE, LAST_VERSION}
+use Rattle.dv_forms.specs.declared.versions.TheConstants.{BODIES_SINCE, COOPERATORS_SINCE, ENDS_THROW_SINCE}
+use Rattle.dv_forms.specs.declared.versions.TheConstants.{LAST_VERSION}
+use Rattle.dv_forms.specs.declared.versions.TheConstants.{RULES_SINCE}
+use Rattle.dv_script.specs.declared.turn_rule.TurnRule.{TurnRule}
+use Rattle.dv_script.specs.declared.turn_rule.TurnRule.TheVariants as turn_rule
 use Rattle.dv_grammar.specs.declared.draft.Draft.{Draft}
 use Rattle.dv_forms.specs.Leaving.{may_leave}
 use Rattle.dv_forms.specs.Forms.{call, IsList, Field, Key, is_keyed_by, IsText, IsInteger, IsNumber, IsClass, IsValue}
@@ -54,9 +58,11 @@ use Rattle.dv_script.specs.declared.event.Event.TheVariants as event
 abbrev pub body_keys : List (List ℕ)
 body_keys = codes "do" ∷ codes "end" ∷ []
 
--- the keys of a cooperator
-abbrev pub cooperator_keys : List (List ℕ)
-cooperator_keys = codes "units" ∷ codes "delay" ∷ []
+-- the keys of a cooperator in a script of this version: from the third on there is one more
+abbrev pub cooperator_keys : ℕ → List (List ℕ)
+cooperator_keys version =
+    if nat_lt version RULES_SINCE then codes "units" ∷ codes "delay" ∷ []
+    else codes "turns" ∷ codes "units" ∷ codes "delay" ∷ []
 
 -- the keys of a script of version 1
 abbrev pub script_keys : List (List ℕ)
@@ -123,6 +129,11 @@ pub data IsListFlag : Data → ListFlag → Type 0 where
 -- FLAG of what is gathered
 pub data IsGatherFlag : Data → GatherFlag → Type 0 where
   gathers_errors : IsGatherFlag (string (codes "consumeErrors")) gather_flag.ConsumeErrors
+
+-- the rule of the turns of a Cooperator
+pub data IsTurnRule : Data → TurnRule → Type 0 where
+  fair_turns : IsTurnRule (string (codes "fair")) turn_rule.Fair
+  twisted_turns : IsTurnRule (string (codes "twisted")) turn_rule.Twisted
 
 -- SIZE and BACKLOG of a queue
 pub data IsBound : Data → Option ℕ → Type 0 where
@@ -383,22 +394,27 @@ pub data IsNamedBody (table : List Class) : Data → NamedBody → Type 0 where
   names_body : (name : List ℕ) (d : Data) (b : Body) → IsBody table d b
       → IsNamedBody table (array (item (string name) (item d no_items))) (record { name = name; body = b })
 
--- an object with exactly the keys `units` and `delay`, but for a comment
-pub record IsCooperator (d : Data) (c : Cooperator) : Type 0 where
+-- the usual rule of the turns of a Cooperator, by the version of the script
+abbrev pub usual_turns : ℕ → TurnRule
+usual_turns version = if nat_lt version RULES_SINCE then turn_rule.Earlier else turn_rule.Fair
+
+-- an object of the keys of a cooperator, of which `units` and `delay` have to be there
+pub record IsCooperator (version : ℕ) (d : Data) (c : Cooperator) : Type 0 where
   pub members : Members
   pub whole : d ≡ object members
-  pub only : is_keyed_by cooperator_keys members ≡ true
+  pub only : is_keyed_by (cooperator_keys version) members ≡ true
   pub units : Key (IsNumber 1 MOST_UNITS) (get_member (codes "units") members) c.units
   pub delay : Key (IsNumber 1 MOST_DELAY) (get_member (codes "delay") members) c.delay
+  pub turns : Field (usual_turns version) IsTurnRule (get_member (codes "turns") members) c.turns
 
 -- a Cooperator that is named: [NAME,COOPERATOR]
 pub data IsNamedCooperator : Data → NamedCooperator → Type 0 where
-  names_cooperator : (name : List ℕ) (d : Data) (c : Cooperator) → IsCooperator d c
+  names_cooperator : (name : List ℕ) (d : Data) (c : Cooperator) → IsCooperator COOPERATORS_SINCE d c
       → IsNamedCooperator (array (item (string name) (item d no_items))) (record { name = name; settings = c })
 
 -- one step a tick, a tick of the cooperator each tick of the clock
-abbrev pub plain_cooperator : Cooperator
-plain_cooperator = record { units = 1; delay = 1 }
+abbrev pub plain_cooperator : ℕ → Cooperator
+plain_cooperator version = record { units = 1; delay = 1; turns = usual_turns version }
 
 -- a script by its shape, with its version and the classes that it declares: an object of the keys of its version, of
 -- which `version` and `events` have to be there
@@ -410,9 +426,11 @@ pub record IsScript (d : Data) (draft : Draft) : Type 0 where
   pub declared : Field [] (IsList IsDeclaration) (get_member (codes "classes") members) draft.declared
   pub all_declared : draft.all_declared ≡ all_declared draft.version draft.declared
   pub table : draft.script.classes ≡ table_of draft.version draft.declared
+  pub ends_throw : draft.script.ends_throw ≡ nat_le ENDS_THROW_SINCE draft.version
   pub limit : Field USUAL_LIMIT (IsNumber 0 (most_limit draft.version))
       (get_member (codes "limit") members) draft.script.limit
-  pub cooperator : Field plain_cooperator IsCooperator (get_member (codes "cooperator") members) draft.script.cooperator
+  pub cooperator : Field (plain_cooperator draft.version) (IsCooperator draft.version)
+      (get_member (codes "cooperator") members) draft.script.cooperator
   pub cooperators : Field [] (IsList IsNamedCooperator)
       (get_member (codes "cooperators") members) draft.script.cooperators
   pub pools : Field [] (IsList IsPool) (get_member (codes "pools") members) draft.script.pools

@@ -1,6 +1,6 @@
 -- What a JSON value reads as by its shape, step by step: the reader that the code follows.
 use Rattle.std.specs.Prelude.{ℕ, zero, suc, Bool, true, List, [], ◌∷◌, Option, Some, None, option_and_then, option_map}
-use Rattle.std.specs.Prelude.{if◌then◌else◌, codes}
+use Rattle.std.specs.Prelude.{if◌then◌else◌, codes, nat_le}
 use Rattle.serde_json.specs.Data.{Data, Items, no_items, item}
 use Rattle.serde_json.specs.Find.{as_array, as_bool, as_str, get}
 use Rattle.serde_json.specs.Read.{max_depth}
@@ -21,8 +21,8 @@ use Rattle.dv_script.specs.declared.action.Action.{Cooperate, WhenDone, PauseTas
 use Rattle.dv_script.specs.declared.action.Action.{ThreadIn, Units, CooperateIn, UnitsIn, StopCooperator}
 use Rattle.dv_script.specs.declared.event.Event.{Event}
 use Rattle.dv_script.specs.declared.event.Event.TheVariants as happens
-use Rattle.dv_script.specs.declared.expected.Expected.{Expected}
-use Rattle.dv_script.specs.declared.expected.Expected.TheVariants as expected
+use Rattle.dv_value.specs.declared.expected.Expected.{Expected}
+use Rattle.dv_value.specs.declared.expected.Expected.TheVariants as expected
 use Rattle.dv_script.specs.declared.script.Cooperator.{Cooperator}
 use Rattle.dv_script.specs.declared.script.NamedBody.{NamedBody}
 use Rattle.dv_script.specs.declared.script.NamedCooperator.{NamedCooperator}
@@ -30,7 +30,7 @@ use Rattle.dv_script.specs.declared.script.NamedPool.{NamedPool}
 use Rattle.dv_script.specs.declared.limits.TheConstants.{MOST_DRAINED, MOST_PLACE, MOST_PLACES, MOST_SUM, MOST_UNITS}
 use Rattle.dv_script.specs.declared.limits.TheConstants.{MOST_WORKERS, USUAL_LIMIT}
 use Rattle.dv_clock.specs.declared.limits.TheConstants.{MOST_DELAY, MOST_TICKS}
-use Rattle.dv_forms.specs.declared.versions.TheConstants.{LAST_VERSION}
+use Rattle.dv_forms.specs.declared.versions.TheConstants.{COOPERATORS_SINCE, ENDS_THROW_SINCE, LAST_VERSION}
 use Rattle.dv_grammar.specs.declared.draft.Draft.{Draft}
 use Rattle.dv_grammar.specs.declared.reading.action.WithBody.{WithBody}
 use Rattle.dv_grammar.specs.declared.reading.action.WithBody.TheVariants as with
@@ -52,11 +52,12 @@ use Rattle.dv_forms.specs.Limits.{most_limit}
 use Rattle.dv_forms.specs.Parts.{◌>>=◌, bound_at, call_at, class_at, declaration_at, each, field, fields_at, first}
 use Rattle.dv_forms.specs.Parts.{five}
 use Rattle.dv_forms.specs.Parts.{four, gather_flag_at, if_there, integer_at, list_at, list_flag_at, none, number_at}
-use Rattle.dv_forms.specs.Parts.{one_of}
+use Rattle.dv_forms.specs.Parts.{one_of, turn_rule_at}
 use Rattle.dv_forms.specs.Parts.{fault_at, one_or_two, table_for, text_at, three_of, two_of, two_or_three, value_at}
 use Rattle.dv_forms.specs.Answer.{with_front}
 use Rattle.dv_forms.specs.Repeat.{repeat_at}
-use Rattle.dv_grammar.specs.Grammar.{body_keys, cooperator_keys, keys_of, plain_cooperator, repeated, running}
+use Rattle.dv_grammar.specs.Grammar.{body_keys, cooperator_keys, keys_of, plain_cooperator, usual_turns, repeated}
+use Rattle.dv_grammar.specs.Grammar.{running}
 
 -- an end, by its word
 unfoldable pub end_of : List Class → EndWord → Items → Option End
@@ -353,19 +354,20 @@ events_at expands table (suc levels) ds = all_listed (listed_at (events_at expan
 abbrev pub events_in : Bool → List Class → Data → Option (List Event)
 events_in expands table d = as_array d >>= events_at expands table max_depth
 
--- a cooperator
-unfoldable pub cooperator_at : Data → Option Cooperator
-cooperator_at d = do
-  _ ← fields_at cooperator_keys d
+-- a cooperator in a script of this version
+unfoldable pub cooperator_at : ℕ → Data → Option Cooperator
+cooperator_at version d = do
+  _ ← fields_at (cooperator_keys version) d
   units ← get (codes "units") d >>= number_at 1 MOST_UNITS
   delay ← get (codes "delay") d >>= number_at 1 MOST_DELAY
-  Some (record { units = units; delay = delay })
+  turns ← field (usual_turns version) turn_rule_at (get (codes "turns") d)
+  Some (record { units = units; delay = delay; turns = turns })
 
 -- a Cooperator that is named
 unfoldable pub named_cooperator_at : Data → Option NamedCooperator
 named_cooperator_at d = do
   ds ← as_array d
-  two_of text_at cooperator_at (λ name settings. record { name = name; settings = settings }) ds
+  two_of text_at (cooperator_at COOPERATORS_SINCE) (λ name settings. record { name = name; settings = settings }) ds
 
 -- a pool
 unfoldable pub pool_at : Data → Option NamedPool
@@ -389,7 +391,7 @@ script_by expands d = do
   version ← get (codes "version") d >>= number_at 1 LAST_VERSION
   _ ← fields_at (keys_of version) d
   limit ← field USUAL_LIMIT (number_at 0 (most_limit version)) (get (codes "limit") d)
-  cooperator ← field plain_cooperator cooperator_at (get (codes "cooperator") d)
+  cooperator ← field (plain_cooperator version) (cooperator_at version) (get (codes "cooperator") d)
   cooperators ← field [] (list_at named_cooperator_at) (get (codes "cooperators") d)
   pools ← field [] (list_at pool_at) (get (codes "pools") d)
   declared ← field [] (list_at declaration_at) (get (codes "classes") d)
@@ -403,6 +405,7 @@ script_by expands d = do
     all_declared = table.1;
     script = record {
       classes = table.0;
+      ends_throw = nat_le ENDS_THROW_SINCE version;
       limit = limit;
       cooperator = cooperator;
       cooperators = cooperators;

@@ -2,12 +2,12 @@
 use Rattle.std.proofs.Common.{◌≡◌, ℕ, zero, suc, ◌+◌, ◌<◌, ◌≤◌, true, false, List, [], ◌∷◌, Option, None, Some, refl}
 use Rattle.std.proofs.Common.{arith}
 use Rattle.std.proofs.Common.{ap, ◌∙◌, sym, subst}
-use Rattle.dv_inline.specs.Meaning.{ended, no_active, raised}
+use Rattle.dv_inline.specs.Meaning.{ended, thrown_by, no_active, raised}
 use Rattle.dv_inline.specs.Position.{Position, Moves, moved, moved_by, moved_in, moved_unless, outward, statement_step}
 use Rattle.dv_inline.specs.Position.{statement_size, statements_size, inside_size, opens_size, result_size}
 use Rattle.dv_inline.specs.Position.{position_size, goes_on, run_within, run_to_request, active, ahead, class_caught}
 use Rattle.dv_inline.specs.Position.{second_for}
-use Rattle.dv_inline.specs.Position.{thrown_to, thrown_from, left_to, left_from, caught_from, out_of}
+use Rattle.dv_inline.specs.Position.{thrown_to, thrown_from, left_to, left_from, ended_with, caught_from, out_of}
 use Rattle.dv_inline.specs.declared.open.Inside.{Inside}
 use Rattle.dv_inline.specs.declared.open.Inside.TheVariants as inside
 use Rattle.dv_inline.specs.declared.open.Onward.TheVariants as onward
@@ -71,6 +71,11 @@ left_less v [] p n = omega arith
 left_less v (around ∷ opens) p n =
     left_at around.inside v (left_from v opens p) around.rest opens p n (left_less v opens p n)
 
+ended_less : (o : Option Failure) (v : Value) (p : Position) → p.result ≡ None
+    → position_size (ended_with o v p) < 1 + statements_size p.statements + opens_size p.opens
+ended_less None v p n = left_less v p.opens p n
+ended_less (Some failure) v p n = thrown_less failure p.opens p n
+
 caught_less : (o : Option Failure) (rest : List Statement) (p : Position) → p.result ≡ None
     → statements_size p.statements ≡ 1 + statements_size rest
     → position_size (caught_from o rest p) < 1 + statements_size p.statements + opens_size p.opens
@@ -92,7 +97,11 @@ by_layer Statement-F.Caught s rest p h g n =
       caught_less (active p.opens) rest p n (omega (arith, h, ap statements_size g)),
     )
 by_layer (Statement-F.End e) s rest p h g n =
-    omega (arith, ap result_size n, left_less (ended e p.value) p.opens (record p { value = Null }) n)
+    omega (
+      arith,
+      ap result_size n,
+      ended_less (thrown_by p.ends_throw (ended e p.value)) (ended e p.value) (record p { value = Null }) n,
+    )
 
 -- what leads out of the innermost
 by_inside : (place : Inside) (rest : List Statement) (opens : List Open) (p : Position) → p.statements ≡ []

@@ -1,5 +1,5 @@
 -- Where a body stands, by which it is performed, and the recursion over its statements say the same.
-use Rattle.std.specs.Prelude.{◌≡◌, List, Some, None}
+use Rattle.std.specs.Prelude.{◌≡◌, Bool, List, Some, None}
 use Rattle.dv_inline.specs.Leads.{reached, LeadsBy, LeadAlike, IsDue, Stands, ResultsIn}
 use Rattle.dv_inline.specs.Meaning.{inline}
 use Rattle.dv_inline.specs.Position.{Position, started, run_to_request, answered}
@@ -10,8 +10,8 @@ use Rattle.dv_value.specs.declared.value.Value.{Value}
 -- a body that begins leads where the recursion over its statements leads
 abbrev pub BodiesBeginThere : Type 0
 BodiesBeginThere =
-    (classes : List Class) (statements : List Statement) (answers : List Value)
-    → reached (started classes statements) answers ≡ inline classes statements answers
+    (classes : List Class) (ends_throw : Bool) (statements : List Statement) (answers : List Value)
+    → reached (started classes ends_throw statements) answers ≡ inline classes ends_throw statements answers
 
 -- the moves that need no answer change nothing of that
 abbrev pub MovesLeadOn : Type 0

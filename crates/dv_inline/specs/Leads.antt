@@ -1,5 +1,5 @@
 -- What a position leads to by answers: what is inside the tries and finallys round it, and then what follows them.
-use Rattle.std.specs.Prelude.{◌≡◌, List, [], ◌∷◌, Option, None, Some}
+use Rattle.std.specs.Prelude.{◌≡◌, Bool, List, [], ◌∷◌, Option, None, Some}
 use Rattle.dv_inline.specs.Meaning.{Reached, Requests, Over, Flow, past, thrown, left, followed, caught, finished}
 use Rattle.dv_inline.specs.Meaning.{all_meant, result_of}
 use Rattle.dv_inline.specs.Position.{Position, active, request_at}
@@ -20,22 +20,25 @@ flow_of (onward.Thrown failure) answers = thrown failure answers
 flow_of (onward.Left v) answers = left v answers
 
 -- what the statement does with what leads out of the statements that it is in; round it this failure is active
-abbrev pub inside_meant : List Class → Inside → Option Failure → Flow → Flow
-inside_meant table (inside.Try catch) outer flow = caught table catch.classes (all_meant table catch.second) flow
-inside_meant table (inside.Caught failure) outer flow = flow
-inside_meant table (inside.Finally second) outer flow = finished (all_meant table second) outer flow
-inside_meant table (inside.Ending how) outer flow = followed flow (λ v answers. flow_of how answers)
+abbrev pub inside_meant : List Class → Bool → Inside → Option Failure → Flow → Flow
+inside_meant table throws (inside.Try catch) outer flow =
+    caught table catch.classes (all_meant table throws catch.second) flow
+inside_meant table throws (inside.Caught failure) outer flow = flow
+inside_meant table throws (inside.Finally second) outer flow = finished (all_meant table throws second) outer flow
+inside_meant table throws (inside.Ending how) outer flow = followed flow (λ v answers. flow_of how answers)
 
 -- outward through the tries and finallys
-abbrev pub through : List Class → List Open → Flow → Flow
-through table [] flow = flow
-through table (around ∷ opens) flow =
-    through table opens
-    (followed (inside_meant table around.inside (active opens) flow) (all_meant table around.rest (active opens)))
+abbrev pub through : List Class → Bool → List Open → Flow → Flow
+through table throws [] flow = flow
+through table throws (around ∷ opens) flow =
+    through table throws opens
+    (followed (inside_meant table throws around.inside (active opens) flow)
+    (all_meant table throws around.rest (active opens)))
 
 abbrev pub reached_unless : Option Value → Position → List Value → Reached
 reached_unless None p answers =
-    result_of (through p.classes p.opens (all_meant p.classes p.statements (active p.opens) p.value answers))
+    result_of (through p.classes p.ends_throw p.opens
+    (all_meant p.classes p.ends_throw p.statements (active p.opens) p.value answers))
 reached_unless (Some result) p answers = Over result
 
 -- where a position leads by these answers

@@ -1,6 +1,6 @@
 -- The result of an inline body by the answers that it gets, in order: a recursion over its statements (Twisted:
 -- `inlineCallbacks`).
-use Rattle.std.specs.Prelude.{ℕ, List, [], ◌∷◌, map, Option, None, Some, codes}
+use Rattle.std.specs.Prelude.{ℕ, Bool, true, false, List, [], ◌∷◌, map, Option, None, Some, codes}
 use Rattle.dv_inline.specs.declared.request.Request.{Request}
 use Rattle.dv_inline.specs.declared.request.Request.TheVariants.{Do, Await}
 use Rattle.dv_script.specs.declared.action.Action.{Action}
@@ -76,7 +76,7 @@ abbrev pub caught_by : Option ℕ → Meant → Failure → List Value → Flow
 caught_by (Some class) second failure answers = second (Some failure) Null answers
 caught_by None second failure answers = thrown failure answers
 
--- what the first statements of a `try` throw is caught by one of its classes, with what is inside them; an end isn't
+-- what the first statements of a `try` throw is caught by one of its classes, with what is inside them; leaving isn't
 -- caught
 abbrev pub caught : List Class → List ℕ → Meant → Flow → Flow
 caught table listed second (past v answers) = past v answers
@@ -123,27 +123,42 @@ ended (end.Wait name) v = v
 ended (end.Run name) v = v
 ended (end.Throw path) v = thrown_or_type_error (failure_at path v)
 
+-- the failure that an end throws where it stands, if it returns this: where ends throw, the one that it fails with
+abbrev pub thrown_by : Bool → Value → Option Failure
+thrown_by true v = failure_in v
+thrown_by false v = None
+
+-- an end that throws no failure leaves the body with what it returns
+abbrev pub left_unless : Option Failure → Value → List Value → Flow
+left_unless None v answers = left v answers
+left_unless (Some failure) v answers = thrown failure answers
+
+abbrev pub end_meant : Bool → End → Meant
+end_meant throws e active v answers = left_unless (thrown_by throws (ended e v)) (ended e v) answers
+
 -- a statement by what those inside it are found to mean
-abbrev pub statement_meant : List Class → Statement-F (Action × Unit {0}) (Statement × Meant) (Body × Unit {0}) → Meant
-statement_meant table (Statement-F.Do action) = do_meant action.0
-statement_meant table (Statement-F.Await name) = await_meant name
-statement_meant table (Statement-F.Try first listed second) =
+abbrev pub statement_meant : List Class → Bool
+    → Statement-F (Action × Unit {0}) (Statement × Meant) (Body × Unit {0}) → Meant
+statement_meant table throws (Statement-F.Do action) = do_meant action.0
+statement_meant table throws (Statement-F.Await name) = await_meant name
+statement_meant table throws (Statement-F.Try first listed second) =
     λ active v answers.
     caught table listed (in_order (map (λ s. s.1) second)) (in_order (map (λ s. s.1) first) active v answers)
-statement_meant table (Statement-F.Finally first second) =
+statement_meant table throws (Statement-F.Finally first second) =
     λ active v answers.
     finished (in_order (map (λ s. s.1) second)) active (in_order (map (λ s. s.1) first) active v answers)
-statement_meant table Statement-F.Raise = raise_meant
-statement_meant table Statement-F.Caught = caught_meant
-statement_meant table (Statement-F.End e) = λ active v answers. left (ended e v) answers
+statement_meant table throws Statement-F.Raise = raise_meant
+statement_meant table throws Statement-F.Caught = caught_meant
+statement_meant table throws (Statement-F.End e) = end_meant throws e
 
--- what a statement results in
-abbrev pub meant : List Class → Statement → Meant
-meant table = para-Statement (Unit {0}) Meant (Unit {0}) (λ action. tt) (statement_meant table) (λ body. tt)
+-- what a statement results in, in a script of these classes, in which ends throw or don't
+abbrev pub meant : List Class → Bool → Statement → Meant
+meant table throws =
+    para-Statement (Unit {0}) Meant (Unit {0}) (λ action. tt) (statement_meant table throws) (λ body. tt)
 
 -- what statements result in
-abbrev pub all_meant : List Class → List Statement → Meant
-all_meant table statements = in_order (map (meant table) statements)
+abbrev pub all_meant : List Class → Bool → List Statement → Meant
+all_meant table throws statements = in_order (map (meant table throws) statements)
 
 -- after the last statement the result is null; a failure that nothing caught is the result
 abbrev pub result_of : Flow → Reached
@@ -154,5 +169,5 @@ result_of (requests request) = Requests request
 
 -- an inline body begins on null, with no active failure: it is over with a result, or it requests what there is no
 -- answer to
-abbrev pub inline : List Class → List Statement → List Value → Reached
-inline table statements answers = result_of (all_meant table statements None Null answers)
+abbrev pub inline : List Class → Bool → List Statement → List Value → Reached
+inline table throws statements answers = result_of (all_meant table throws statements None Null answers)

@@ -2,7 +2,7 @@
 use Rattle.std.specs.Prelude.{ℕ, zero, suc, ◌+◌, ◌≡◌, Bool, true, false, List, [], ◌∷◌, map, drop, Option, None, Some}
 use Rattle.std.specs.Prelude.{Result, Ok, Err}
 use Rattle.std.specs.declared.alloc.AllocError.{AllocError}
-use Rattle.dv_inline.specs.Meaning.{ended, raised, no_active}
+use Rattle.dv_inline.specs.Meaning.{ended, thrown_by, raised, no_active}
 use Rattle.dv_inline.specs.declared.open.Inside.{Inside}
 use Rattle.dv_inline.specs.declared.open.Inside.TheVariants as inside
 use Rattle.dv_inline.specs.declared.open.Onward.{Onward}
@@ -21,19 +21,26 @@ use Rattle.dv_value.specs.declared.classes.Class.{Class}
 use Rattle.dv_value.specs.declared.failure.Failure.{Failure}
 use Rattle.dv_value.specs.declared.value.Value.{Value, Null, Fault, List as ListOf}
 
--- the classes of the script, the statements left, the tries and finallys round them from the innermost, the present
--- value, and the result once the body is over
+-- the classes of the script, whether ends throw their failures in it, the statements left, the tries and finallys round
+-- them from the innermost, the present value, and the result once the body is over
 pub record Position : Type 0 where
   pub classes : List Class
+  pub ends_throw : Bool
   pub statements : List Statement
   pub opens : List Open
   pub value : Value
   pub result : Option Value
 
 -- at the whole body
-abbrev pub started : List Class → List Statement → Position
-started classes statements =
-    record { classes = classes; statements = statements; opens = []; value = Null; result = None }
+abbrev pub started : List Class → Bool → List Statement → Position
+started classes ends_throw statements = record {
+  classes = classes;
+  ends_throw = ends_throw;
+  statements = statements;
+  opens = [];
+  value = Null;
+  result = None;
+}
 
 -- the body is over with this
 abbrev pub over_with : Value → Position → Position
@@ -141,6 +148,15 @@ abbrev pub caught_from : Option Failure → List Statement → Position → Posi
 caught_from (Some failure) rest p = record p { statements = rest; value = ListOf (Fault failure ∷ []) }
 caught_from None rest p = thrown_from no_active p.opens p
 
+-- an end that throws no failure leaves the body with what it returns
+abbrev pub ended_with : Option Failure → Value → Position → Position
+ended_with None v p = left_from v p.opens p
+ended_with (Some failure) v p = thrown_from failure p.opens p
+
+-- an end that returns this
+abbrev pub ended_from : Value → Position → Position
+ended_from v p = ended_with (thrown_by p.ends_throw v) v p
+
 -- one move that needs no answer, where there is one
 abbrev pub moved_by : Statement-F Action Statement Body → List Statement → Position → Option Position
 moved_by (Statement-F.Do action) rest p = None
@@ -150,7 +166,7 @@ moved_by (Statement-F.Try first listed second) rest p =
 moved_by (Statement-F.Finally first second) rest p = Some (into first (inside.Finally second) rest p)
 moved_by Statement-F.Raise rest p = Some (thrown_from (raised (active p.opens)) p.opens p)
 moved_by Statement-F.Caught rest p = Some (caught_from (active p.opens) rest p)
-moved_by (Statement-F.End e) rest p = Some (left_from (ended e p.value) p.opens (record p { value = Null }))
+moved_by (Statement-F.End e) rest p = Some (ended_from (ended e p.value) (record p { value = Null }))
 
 abbrev pub moved_in : List Statement → Position → Option Position
 moved_in [] p = Some (outward p.opens p)

@@ -43,19 +43,22 @@ impl<'s> Model for InlineBody<'s> {
 }
 
 impl<'s> InlineBody<'s> {
-    /// A body at its first statement, with the present value null, in a script of these classes.
-    /// AllocError where out of memory.
+    /// A body at its first statement, with the present value null, in a script of these classes, in
+    /// which an end that fails throws its failure or leaves the body with it. AllocError where out
+    /// of memory.
     pub fn start(
         alloc: Global,
         classes: &'s Classes,
+        ends_throw: bool,
         statements: &'s [Statement],
     ) -> Result<InlineBody<'s>, AllocError>
-        ensures stands { IfOk result (λ body. body ≡ started classes.now statements.now) }
+        ensures stands { IfOk result
+            (λ body. body ≡ started classes.now ends_throw statements.now) }
         ensures means { IfOk result (λ body. (answers : _)
-            → reached body answers ≡ inline classes.now statements.now answers) }
+            → reached body answers ≡ inline classes.now ends_throw statements.now answers) }
     {
         Ok(InlineBody {
-            walk: Box::new(alloc, Walk::start(alloc, classes, statements))?,
+            walk: Box::new(alloc, Walk::start(alloc, classes, ends_throw, statements))?,
         })
     }
 

@@ -4,7 +4,7 @@ ghost use Rattle.dv_inline.specs.Meaning.{ended, raised, no_active};
 ghost use Rattle.dv_inline.specs.Position.{started, moved, moved_by, over_with, outward};
 ghost use Rattle.dv_inline.specs.Position.{run_to_request};
 ghost use Rattle.dv_inline.specs.Position.{answered, request_at, class_caught, thrown_from};
-ghost use Rattle.dv_inline.specs.Position.{left_from};
+ghost use Rattle.dv_inline.specs.Position.{left_from, ended_from};
 ghost use Rattle.dv_inline.specs.Position.{went_on, Moves, MovesTo, second_for, ahead, active};
 ghost use Rattle.dv_inline.specs.Position.{passed};
 ghost use Rattle.dv_inline.specs.Position.{into, into_second, out_of, gone_on, caught_from};
@@ -38,6 +38,8 @@ pub struct Walk<'s> {
     alloc: Global,
     /// The classes of the script, by which a `try` catches.
     classes: &'s Classes,
+    /// Whether an end that fails throws its failure. Else it leaves the body with it.
+    ends_throw: bool,
     statements: Statements<'s>,
     opens: Opens<'s>,
     value: Value,
@@ -65,6 +67,7 @@ impl<'s> Model for Walk<'s> {
 
     ghost view = { λ b. record {
       classes = b.classes.now;
+      ends_throw = b.ends_throw;
       statements = b.statements;
       opens = b.opens;
       value = b.value;
@@ -75,12 +78,18 @@ impl<'s> Model for Walk<'s> {
 impl<'s> Walk<'s> {
     /// A body at its first statement, with the present value null. It takes no memory before it
     /// goes into a `try` or a `finally`.
-    pub fn start(alloc: Global, classes: &'s Classes, statements: &'s [Statement]) -> Walk<'s>
-        ensures { result ≡ started classes.now statements.now }
+    pub fn start(
+        alloc: Global,
+        classes: &'s Classes,
+        ends_throw: bool,
+        statements: &'s [Statement],
+    ) -> Walk<'s>
+        ensures { result ≡ started classes.now ends_throw statements.now }
     {
         Walk {
             alloc,
             classes,
+            ends_throw,
             statements: Statements::new(statements),
             opens: Opens::new(alloc),
             value: Value::Null,
@@ -269,8 +278,8 @@ impl<'s> Walk<'s> {
         }
     }
 
-    /// Goes into a `try` or a `finally`, throws or catches the active failure, or leaves the body,
-    /// and returns whether it did.
+    /// Goes into a `try` or a `finally`, throws or catches the active failure, or does what an end
+    /// says, and returns whether it did.
     fn step_by(
         &mut self,
         statement: &'s Statement,
@@ -303,7 +312,7 @@ impl<'s> Walk<'s> {
                 Ok(true)
             }
             Statement::End(end) => {
-                self.leave_by(end)?;
+                self.end_by(end)?;
                 Ok(true)
             }
         }
@@ -366,15 +375,31 @@ impl<'s> Walk<'s> {
         }
     }
 
-    /// Leaves the body with an end on the present value.
-    fn leave_by(&mut self, end: &End) -> Result<(), AllocError>
-        ensures { OnOk result (self.new ≡ left_from (ended end.now self.old.value) self.old.opens
-            (record self.old { value = Null })) }
+    /// An end on the present value.
+    fn end_by(&mut self, end: &End) -> Result<(), AllocError>
+        ensures { OnOk result (self.new
+            ≡ ended_from (ended end.now self.old.value) (record self.old { value = Null })) }
     {
         let value = mem::replace(&mut self.value, Value::Null);
         let outcome = ended(self.alloc, end, value)?;
-        self.leave(outcome);
+        self.end_with(outcome);
         Ok(())
+    }
+
+    /// Leaves the body with what an end has returned; but where ends throw, a failure is thrown.
+    fn end_with(&mut self, outcome: Value)
+        ensures { self.new ≡ ended_from outcome self.old }
+    {
+        if !self.ends_throw {
+            self.leave(outcome);
+            return;
+        }
+        match outcome {
+            Value::Fault(failure) => self.throw(failure),
+            Value::Null | Value::Bool(_) | Value::Int(_) | Value::Text(_) | Value::List(_) => {
+                self.leave(outcome);
+            }
+        }
     }
 
     /// Makes all moves that need no answer: runs up to the next request, or to the end.

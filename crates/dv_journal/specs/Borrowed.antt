@@ -1,7 +1,7 @@
 -- The parts of a line as code has them, which borrow from the entry.
 use Rattle.std.specs.Prelude.{List, [], ◌∷◌}
 use Rattle.dv_journal.specs.Parts.{Part, Deferred, Fired, NewName, Name, Object, Job, Number, Bound, Due, Time, Outcome}
-use Rattle.dv_journal.specs.Parts.{Value, Failure, Text, State}
+use Rattle.dv_journal.specs.Parts.{Value, Failure, Text, State, Expected}
 use Rattle.dv_journal.specs.declared.part.Part as of_part
 use Rattle.dv_journal.specs.declared.part.Part.TheVariants as part
 use Rattle.dv_journal.specs.declared.part.Parts as of_parts
@@ -24,6 +24,7 @@ part_in (part.Value value) = Value value.now
 part_in (part.Failure failure) = Failure failure.now
 part_in (part.Text text) = Text text.now
 part_in (part.State state) = State state.now
+part_in (part.Expected expected) = Expected expected.now
 
 -- the parts in their order
 abbrev pub parts_in : of_parts.Parts → List Part

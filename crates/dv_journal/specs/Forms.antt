@@ -1,7 +1,7 @@
 -- The forms of lines, as a table that has a row a kind of entry.
 use Rattle.std.specs.Prelude.{ℕ, List, Option, map, find, bytes_eq}
 use Rattle.dv_journal.specs.Parts.{Part, Deferred, Fired, NewName, Name, Object, Job, Number, Bound, Due, Time, Outcome}
-use Rattle.dv_journal.specs.Parts.{Value, Failure, Text, State, parts_of, wording_of}
+use Rattle.dv_journal.specs.Parts.{Value, Failure, Text, State, Expected, parts_of, wording_of}
 use Rattle.dv_journal.specs.declared.form.LineForm.{LineForm}
 use Rattle.dv_journal.specs.declared.form.PartKind.{PartKind}
 use Rattle.dv_journal.specs.declared.form.PartKind.TheVariants as kind
@@ -24,6 +24,7 @@ kind_of (Value value) = kind.Value
 kind_of (Failure failure) = kind.Failure
 kind_of (Text text) = kind.Text
 kind_of (State state) = kind.State
+kind_of (Expected expected) = kind.Expected
 
 -- the form of a line: its word, and the kinds of its other parts
 pub record Form : Type 0 where

@@ -6,8 +6,8 @@ use Rattle.dv_value.specs.ValueText.{json, failure_text, outcome}
 use Rattle.dv_value.specs.declared.classes.Class.{Class}
 use Rattle.dv_journal.specs.declared.entry.Entry.{Entry}
 use Rattle.dv_journal.specs.Parts.{Part, Deferred, Fired, NewName, Name, Object, Job, Number, Bound, Due, Time, Outcome}
-use Rattle.dv_journal.specs.Parts.{Value, Failure, Text, State, parts_of, wording_of}
-use Rattle.dv_journal.specs.State.{hash, state_text}
+use Rattle.dv_journal.specs.Parts.{Value, Failure, Text, State, Expected, parts_of, wording_of}
+use Rattle.dv_journal.specs.State.{hash, state_text, expected_text}
 
 -- the name, or a dash for a Deferred without one
 abbrev pub name_text : Option (List ℕ) → List ℕ
@@ -36,6 +36,7 @@ part_text table (Value value) = json table value
 part_text table (Failure failure) = failure_text table failure
 part_text table (Text text) = quoted text
 part_text table (State state) = state_text table state
+part_text table (Expected expected) = expected_text table expected
 
 -- the parts, each after a space
 abbrev pub parts_text : List Class → List Part → List ℕ

@@ -1,6 +1,7 @@
 -- The line of an entry in parts: its word, and what follows, each part after a space.
 use Rattle.std.specs.Prelude.{ℕ, ◌+◌, length, List, [], ◌∷◌, Option, codes}
-use Rattle.dv_value.specs.Size.{size, failure_size}
+use Rattle.dv_value.specs.Size.{size, failure_size, expected_size}
+use Rattle.dv_value.specs.declared.expected.Expected as of_expected
 use Rattle.dv_value.specs.declared.failure.Failure as of_failure
 use Rattle.dv_value.specs.declared.value.Value as of_value
 use Rattle.dv_journal.specs.declared.form.ObjectKind.{ObjectKind}
@@ -33,6 +34,8 @@ pub data Part : Type 0 where
   Failure : (failure : of_failure.Failure) → Part
   Text : (text : List ℕ) → Part
   State : (state : of_state.State) → Part
+  -- what a script expects of a Deferred
+  Expected : (expected : of_expected.Expected) → Part
 
 -- the word of a line, and its other parts
 pub record Wording : Type 0 where
@@ -107,7 +110,8 @@ wording_of (entry.UnitsIn name units) =
     says (codes "unitsin") (Object object.Cooperator naming.Any name ∷ Number units ∷ [])
 wording_of (entry.StopCooperator name) = says (codes "stopcooperator") (Object object.Cooperator naming.Any name ∷ [])
 wording_of (entry.Expect id state) = says (codes "expect") (Deferred id ∷ State state ∷ [])
-wording_of (entry.Unmet id state) = says (codes "unmet") (Deferred id ∷ State state ∷ [])
+wording_of (entry.Unmet id state expected) =
+    says (codes "unmet") (Deferred id ∷ State state ∷ Expected expected ∷ [])
 wording_of (entry.Unbound name) = says (codes "unbound") (Text name ∷ [])
 
 -- the parts after its word
@@ -131,3 +135,4 @@ size_shown (Value value) = size value
 size_shown (Failure failure) = failure_size failure
 size_shown (Text text) = 1 + length text
 size_shown (State state) = state_size state
+size_shown (Expected expected) = expected_size expected

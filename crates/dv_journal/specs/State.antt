@@ -1,9 +1,11 @@
--- What has become of a Deferred: how much its text weighs, and what a line shows of it.
+-- What has become of a Deferred, and what a script expects of it: how much its text weighs, and what a line shows.
 use Rattle.std.specs.Prelude.{ℕ, List, ◌++◌, codes}
 use Rattle.std.specs.Fmt.{decimal}
 use Rattle.dv_value.specs.Size.{size}
 use Rattle.dv_value.specs.ValueText.{outcome}
 use Rattle.dv_value.specs.declared.classes.Class.{Class}
+use Rattle.dv_value.specs.declared.expected.Expected.{Expected}
+use Rattle.dv_value.specs.declared.expected.Expected.TheVariants as expected
 use Rattle.dv_journal.specs.declared.state.State.{State}
 use Rattle.dv_journal.specs.declared.state.State.TheVariants.{Unfired, Waiting, Fired}
 
@@ -22,3 +24,13 @@ abbrev pub state_text : List Class → State → List ℕ
 state_text table Unfired = codes "unfired"
 state_text table (Waiting id) = codes "waiting " ++ hash id
 state_text table (Fired value) = outcome table value
+
+-- unfired, waiting for any other, or what it is fired with
+abbrev pub wanted_text : List Class → Expected → List ℕ
+wanted_text table expected.Unfired = codes "unfired"
+wanted_text table expected.Waiting = codes "waiting"
+wanted_text table (expected.Fired value) = outcome table value
+
+-- the same after a word that says that it is expected
+abbrev pub expected_text : List Class → Expected → List ℕ
+expected_text table e = codes "expected " ++ wanted_text table e

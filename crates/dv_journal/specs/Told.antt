@@ -106,7 +106,7 @@ told_of (entry.Units units) = Other
 told_of (entry.UnitsIn name units) = Other
 told_of (entry.StopCooperator name) = Other
 told_of (entry.Expect id state) = Other
-told_of (entry.Unmet id state) = IsUnmet
+told_of (entry.Unmet id state expected) = IsUnmet
 told_of (entry.Unbound name) = IsUnmet
 
 -- what it logs about Deferreds

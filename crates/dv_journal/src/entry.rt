@@ -16,6 +16,7 @@ use crate::part::Parts::{Nothing, One, Three, Two};
 use crate::part::{Line, Part};
 use crate::state::State;
 use dv_value::boxed::Boxed;
+use dv_value::expected::Expected;
 use dv_value::failure::Failure;
 use dv_value::text::Text;
 use dv_value::value::Value;
@@ -144,8 +145,9 @@ pub enum Entry {
     /// `expect #N S`: a Deferred is as the script expects, and S is what has become of it: an
     /// outcome, `unfired`, or `waiting #E`.
     Expect(DeferredId, Boxed<State>),
-    /// `unmet #N S`: a Deferred isn't as the script expects, and the run ends.
-    Unmet(DeferredId, Boxed<State>),
+    /// `unmet #N S expected T`: a Deferred isn't as the script expects, which is T, and the run
+    /// ends.
+    Unmet(DeferredId, Boxed<State>, Boxed<Expected>),
     /// `unbound J`: the script expects something of a name that isn't bound, and the run ends.
     Unbound(Text),
 }
@@ -168,7 +170,7 @@ impl Entry {
     pub fn is_unmet(&self) -> bool
         ensures { result ≡ is_unmet self.now }
     {
-        matches!(self, Entry::Unmet(_, _) | Entry::Unbound(_))
+        matches!(self, Entry::Unmet(_, _, _) | Entry::Unbound(_))
     }
 
     /// The line of the entry in parts.
@@ -290,9 +292,13 @@ impl Entry {
                 forms::EXPECT,
                 Two(Deferred(*id), Part::State(state.get())),
             ),
-            Entry::Unmet(id, state) => Line(
+            Entry::Unmet(id, state, expected) => Line(
                 forms::UNMET,
-                Two(Deferred(*id), Part::State(state.get())),
+                Three(
+                    Deferred(*id),
+                    Part::State(state.get()),
+                    Part::Expected(expected.get()),
+                ),
             ),
             Entry::Unbound(name) => Line(forms::UNBOUND, One(Part::Text(name))),
         }

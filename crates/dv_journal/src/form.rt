@@ -61,6 +61,8 @@ pub enum PartKind {
     /// What has become of a Deferred: `unfired`, `waiting` and the Deferred that it waits for, or
     /// an outcome.
     State,
+    /// `expected`, and what a script expects of a Deferred: `unfired`, `waiting`, or an outcome.
+    Expected,
 }
 
 /// What an entry does to the sections of its run.

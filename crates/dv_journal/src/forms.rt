@@ -7,8 +7,8 @@ ghost use Rattle.dv_journal.specs.declared.entry.Entry.{Entry};
 use crate::form::Naming::{Any, Last, Made};
 use crate::form::ObjectKind::{Body, Call, Cooperator, Lock, Loop, Queue, Task};
 use crate::form::PartKind::{
-    Bound, Deferred, Due, Failure, Fired, Job, Name, NewName, Number, Object, Outcome, State, Text,
-    Time, Value,
+    Bound, Deferred, Due, Expected, Failure, Fired, Job, Name, NewName, Number, Object, Outcome,
+    State, Text, Time, Value,
 };
 use crate::form::{LineForm, Nesting};
 
@@ -137,7 +137,7 @@ pub const STOP_COOPERATOR: LineForm = row!("stopcooperator", Plain, Object(Coope
 
 pub const EXPECT: LineForm = row!("expect", Plain, Deferred, State);
 
-pub const UNMET: LineForm = row!("unmet", Plain, Deferred, State);
+pub const UNMET: LineForm = row!("unmet", Plain, Deferred, State, Expected);
 
 pub const UNBOUND: LineForm = row!("unbound", Plain, Text);
 

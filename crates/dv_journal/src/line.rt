@@ -3,13 +3,14 @@ ghost use Rattle.std.specs.Prelude.{◌≡◌, ◌++◌, OnOk, codes, string_byt
 ghost use Rattle.dv_value.specs.ValueText.{outcome};
 ghost use Rattle.dv_journal.specs.Borrowed.{part_in};
 ghost use Rattle.dv_journal.specs.Line.{name_text, bound_text, part_text, words_of, line_of};
-ghost use Rattle.dv_journal.specs.State.{hash, state_text};
+ghost use Rattle.dv_journal.specs.State.{hash, state_text, expected_text};
 
 use crate::deferred_id::DeferredId;
 use crate::entry::Entry;
 use crate::part::{Line, Part, Parts};
 use crate::state::State;
 use dv_value::classes::Classes;
+use dv_value::expected::Expected;
 use dv_value::text::Text;
 use dv_value::value::Value;
 use dv_value::value_text::{write_failure, write_json, write_outcome, write_string};
@@ -68,6 +69,24 @@ pub fn write_state(
     }
 }
 
+/// Adds what a script expects of a Deferred.
+fn write_expected(
+    alloc: Global,
+    classes: &Classes,
+    out: &mut String,
+    expected: &Expected,
+) -> Result<(), AllocError>
+    ensures { OnOk result
+        (string_bytes out.new ≡ string_bytes out.old ++ expected_text classes.now expected.now) }
+{
+    write_text(out, "expected ")?;
+    match expected {
+        Expected::Unfired => write_text(out, "unfired"),
+        Expected::Waiting => write_text(out, "waiting"),
+        Expected::Fired(value) => write_outcome(alloc, classes, out, value),
+    }
+}
+
 /// Adds a part after a space.
 #[inline(always)]
 fn write_part(
@@ -92,6 +111,7 @@ fn write_part(
         Part::Failure(failure) => write_failure(alloc, classes, out, failure),
         Part::Text(text) => write_string(alloc, out, text.as_str()),
         Part::State(state) => write_state(alloc, classes, out, state),
+        Part::Expected(expected) => write_expected(alloc, classes, out, expected),
     }
 }
 

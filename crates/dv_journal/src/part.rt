@@ -7,6 +7,7 @@ ghost use Rattle.dv_journal.specs.Parts.{size_shown};
 use crate::deferred_id::DeferredId;
 use crate::form::{LineForm, Naming, ObjectKind};
 use crate::state::State;
+use dv_value::expected::Expected;
 use dv_value::failure::Failure;
 use dv_value::text::Text;
 use dv_value::value::Value;
@@ -29,6 +30,7 @@ pub enum Part<'e> {
     Failure(&'e Failure),
     Text(&'e Text),
     State(&'e State),
+    Expected(&'e Expected),
 }
 
 /// The parts of a line after its word, in their order.
@@ -67,6 +69,7 @@ impl<'e> Part<'e> {
                 .saturating_add(text.as_str().len() as u64)
                 .saturating_add(1),
             Part::State(state) => so_far.saturating_add(state.size()),
+            Part::Expected(expected) => so_far.saturating_add(expected.size()),
         }
     }
 }

@@ -1,9 +1,9 @@
 -- Parts of lines, one after the other.
 use Rattle.std.proofs.Common.{◌≡◌, ◌-◌, ℕ, Bool, List, [], ◌++◌, OnOk, Result, Ok, Err, codes, length, refl, ap, ◌∙◌}
-use Rattle.std.proofs.Common.{append_assoc}
+use Rattle.std.proofs.Common.{append_assoc, ◌∷◌, map}
 use Rattle.std.specs.Fmt.{decimal}
 use Rattle.dv_facts.proofs.Added.{adds_nothing}
-use Rattle.dv_facts.proofs.Visible.{visible_bool, visible_both, visible_decimal, visible_quoted}
+use Rattle.dv_facts.proofs.Visible.{AllVisible, visible_bool, visible_both, visible_decimal, visible_list, visible_quoted}
 use Rattle.dv_facts.specs.Parts.{Adds, IsVisible, bool_text}
 use Rattle.dv_journal.specs.Journal.{Written, total_weight}
 use Rattle.dv_journal.specs.Line.{name_text}
@@ -11,10 +11,13 @@ use Rattle.dv_journal.specs.Ending.{ending_of, is_at_limit}
 use Rattle.dv_journal.specs.State.{hash, state_text}
 use Rattle.dv_journal.specs.declared.ending.Ending.{Ending}
 use Rattle.dv_journal.specs.declared.ending.Ending.TheVariants.{Over, AtLimit, Unmet}
-use Rattle.dv_json.specs.Gathered.{AddsEnd, AddsOutcome, AddsShown}
-use Rattle.dv_json.specs.Text.{IsEndLine, IsOutcomeLine, ended, totals, unmet_text}
+use Rattle.dv_json.specs.Gathered.{AddsEnd, AddsOutcome, AddsShown, AddsWork}
+use Rattle.dv_json.specs.Text.{IsEndLine, IsOutcomeLine, batches_member, ended, totals, unmet_text}
+use Rattle.dv_posts.specs.Batches.{Batch}
+use Rattle.dv_posts.specs.declared.posted.Posted.{Posted}
 use Rattle.dv_run.specs.Output.{outcome_line, pauses_text}
 use Rattle.dv_store.specs.declared.outcome.Outcome.{Outcome}
+use Rattle.dv_survey.specs.Text.{batch_text, batches_text, posted_text}
 use Rattle.dv_value.specs.declared.classes.Class.{Class}
 use Rattle.json.specs.Print.{quoted}
 
@@ -133,26 +136,63 @@ abbrev pub totals_of : Written → Bool → ℕ → List ℕ
 totals_of journal stopped time =
     totals journal.limit (ending_of stopped journal.entries) (length journal.entries) time (total_weight journal.entries)
 
--- the line that ends a run, in its parts
-pub end_added : {A E : Type 0} (r : Result A E) (journal : Written) (stopped : Bool) (time : ℕ) (a b c : List ℕ) →
-    OnOk r (c ≡ b ++ totals_of journal stopped time) → Adds a b
-    → OnOk r (AddsEnd journal stopped a c)
-end_added (Ok x) journal stopped time a b c told before =
-    let last = totals_of journal stopped time in
+-- batches end no line
+visible_posted : (posted : Posted) → IsVisible (posted_text posted)
+visible_posted posted =
+    let first = codes "[" ++ decimal posted.caller in
+    visible_both ((first ++ codes ",") ++ decimal posted.index) (codes "]")
+    (visible_both (first ++ codes ",") (decimal posted.index)
+    (visible_both first (codes ",") (visible_decimal posted.caller) refl) (visible_decimal posted.index)) refl
+
+visible_posts : (batch : Batch) → AllVisible (map posted_text batch)
+visible_posts [] = tt
+visible_posts (posted ∷ batch) = (visible_posted posted, visible_posts batch)
+
+visible_batches : (batches : List Batch) → AllVisible (map batch_text batches)
+visible_batches [] = tt
+visible_batches (batch ∷ batches) = (visible_list (map posted_text batch) (visible_posts batch), visible_batches batches)
+
+visible_member : (batches : List Batch) → IsVisible (batches_member batches)
+visible_member batches = visible_list (map batch_text batches) (visible_batches batches)
+
+-- the batches, and then what follows them
+pub work_added : {A E : Type 0} (r : Result A E) (batches : List Batch) (a b c d e : List ℕ) → OnOk r (Adds d e) →
+    b ≡ a ++ codes "{\"batches\":" → c ≡ b ++ batches_text batches → d ≡ c ++ codes ",\"jobs\":"
+    → OnOk r (AddsWork batches a e)
+work_added (Ok x) batches a b c d e more first second third =
+    let jobs = codes ",\"jobs\":" in
     record {
-      line = before.text ++ last;
-      grew = text_next a b c before.text last before.is told;
+      after = jobs ++ more.text;
+      grew = text_next a c e (batches_member batches) (jobs ++ more.text)
+          (text_next a b c (codes "{\"batches\":") (batches_text batches) first second)
+          (text_next c d e jobs more.text third more.is);
+      visible = more.visible;
+    }
+work_added (Err e') batches a b c d e more first second third = tt
+
+-- the line that ends a run, in its parts
+pub end_added : {A E : Type 0} (r : Result A E)
+    (batches : List Batch) (journal : Written) (stopped : Bool) (time : ℕ) (a b c : List ℕ) →
+    OnOk r (c ≡ b ++ totals_of journal stopped time) → AddsWork batches a b
+    → OnOk r (AddsEnd batches journal stopped a c)
+end_added (Ok x) batches journal stopped time a b c told work =
+    let last = totals_of journal stopped time in
+    let member = batches_member batches in
+    record {
+      line = member ++ work.after ++ last;
+      grew = text_next a b c (member ++ work.after) last work.grew told;
       is_line = record {
-        before = before.text;
+        between = work.after;
         time = time;
         is = refl;
         visible =
-            visible_both before.text last before.visible
+            visible_both (member ++ work.after) last
+            (visible_both member work.after (visible_member batches) work.visible)
             (visible_totals journal.limit (ending_of stopped journal.entries) (length journal.entries) time
             (total_weight journal.entries));
       };
     }
-end_added (Err e) journal stopped time a b c told before = tt
+end_added (Err e) batches journal stopped time a b c told work = tt
 
 -- there is a line of each Deferred
 pub outcome_exists : (table : List Class) (number : ℕ) (outcome : Outcome)
@@ -169,9 +209,13 @@ outcome_exists table number outcome =
     (added.line, added.is_line)
 
 -- there is a line that ends a run
-pub end_exists : (journal : Written) (stopped : Bool) → (line : List ℕ) × IsEndLine journal stopped line
-end_exists journal stopped =
-    let last = totals_of journal stopped 0 in
-    let added : AddsEnd journal stopped [] last =
-    end_added {A = ℕ} {E = ℕ} (Ok 0) journal stopped 0 [] [] last refl (adds_nothing []) in
+pub end_exists : (batches : List Batch) (journal : Written) (stopped : Bool)
+    → (line : List ℕ) × IsEndLine batches journal stopped line
+end_exists batches journal stopped =
+    let begun = batches_member batches ++ codes ",\"jobs\":" in
+    let work : AddsWork batches [] begun =
+    record { after = codes ",\"jobs\":"; grew = refl; visible = refl } in
+    let added : AddsEnd batches journal stopped [] (begun ++ totals_of journal stopped 0) =
+    end_added {A = ℕ} {E = ℕ} (Ok 0) batches journal stopped 0 [] begun (begun ++ totals_of journal stopped 0) refl work
+    in
     (added.line, added.is_line)

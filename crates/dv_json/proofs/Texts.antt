@@ -16,6 +16,7 @@ use Rattle.dv_json.proofs.Lines.{gathers_both}
 use Rattle.dv_json.proofs.Parts.{end_exists, outcome_exists}
 use Rattle.dv_json.specs.Gathered.{CutsLines, Gathers, GathersLines, IsEnd}
 use Rattle.dv_json.specs.Text.{AreSoMany, EachHasLine, HasLines, IsOutcomeLine, Writes, WritesPrefix, ended, start_line}
+use Rattle.dv_posts.specs.Batches.{Batch}
 use Rattle.dv_store.specs.declared.outcome.Outcome.{Outcome}
 use Rattle.dv_value.specs.declared.classes.Class.{Class}
 
@@ -89,12 +90,12 @@ every_entry table marks number entry =
 pub every_outcome : (table : List Class) → Every (IsOutcomeLine table)
 every_outcome table number outcome = outcome_exists table number outcome
 
-pub ends_exist : (journal : Written) (stopped : Bool) → Exist (IsEnd journal stopped)
-ends_exist journal stopped =
-    let last = end_exists journal stopped in (last.0 ∷ [], record { line = last.0; only = refl; is_line = last.1 })
+pub ends_exist : (batches : List Batch) (journal : Written) (stopped : Bool) → Exist (IsEnd batches journal stopped)
+ends_exist batches journal stopped =
+    let last = end_exists batches journal stopped in (last.0 ∷ [], record { line = last.0; only = refl; is_line = last.1 })
 
-module _ (table : List Class) (marks : List ℕ) (journal : Written) (stopped : Bool) (outcomes : List Outcome)
-    (left : ℕ) where
+module _ (table : List Class) (marks : List ℕ) (batches : List Batch) (journal : Written) (stopped : Bool)
+    (outcomes : List Outcome) (left : ℕ) where
   abbrev pub Start : List (List ℕ) → Type 0
   Start lines = lines ≡ start_line ∷ []
 
@@ -105,22 +106,22 @@ module _ (table : List Class) (marks : List ℕ) (journal : Written) (stopped : 
   Deferreds = EachHasLine (IsOutcomeLine table) 0 outcomes
 
   abbrev pub All : List (List ℕ) → Type 0
-  All = Both Start (Both Entries (Both Deferreds (Both (AreSoMany left) (IsEnd journal stopped))))
+  All = Both Start (Both Entries (Both Deferreds (Both (AreSoMany left) (IsEnd batches journal stopped))))
 
-  pub after_deferreds : Exist (Both (AreSoMany left) (IsEnd journal stopped))
-  after_deferreds = both_exist _ _ (empties left, many_exist left) (ends_exist journal stopped)
+  pub after_deferreds : Exist (Both (AreSoMany left) (IsEnd batches journal stopped))
+  after_deferreds = both_exist _ _ (empties left, many_exist left) (ends_exist batches journal stopped)
 
-  pub after_entries : Exist (Both Deferreds (Both (AreSoMany left) (IsEnd journal stopped)))
+  pub after_entries : Exist (Both Deferreds (Both (AreSoMany left) (IsEnd batches journal stopped)))
   after_entries = both_exist _ _ (each_exist (IsOutcomeLine table) (every_outcome table) 0 outcomes) after_deferreds
 
-  pub after_start : Exist (Both Entries (Both Deferreds (Both (AreSoMany left) (IsEnd journal stopped))))
+  pub after_start : Exist (Both Entries (Both Deferreds (Both (AreSoMany left) (IsEnd batches journal stopped))))
   after_start =
       both_exist _ _ (each_exist (λ number. IsEntryLine table (event_at marks number) number)
       (every_entry table marks) 0 journal.entries) after_entries
 
   -- they are the lines of a run
   has_lines : (lines : List (List ℕ)) → All lines
-      → HasLines table marks journal stopped outcomes left (flat_map ended lines)
+      → HasLines table marks batches journal stopped outcomes left (flat_map ended lines)
   has_lines lines all =
       let entries = all.are_second.first in
       let deferreds = all.are_second.are_second.first in
@@ -147,7 +148,7 @@ module _ (table : List Class) (marks : List ℕ) (journal : Written) (stopped : 
 
   -- all was written
   pub text_written : (a f z : Option (List ℕ)) (g l : List ℕ) → g ≡ [] → GathersLines All a g f l → Appends f z l
-      → Writes (HasLines table marks journal stopped outcomes left) a z
+      → Writes (HasLines table marks batches journal stopped outcomes left) a z
   text_written a f z g l empty all rest =
       let (part, grew, whole) = all.gathers.written in
       record {
@@ -160,7 +161,7 @@ module _ (table : List Class) (marks : List ℕ) (journal : Written) (stopped : 
 
   -- a prefix was
   pub text_cut : (a z : Option (List ℕ)) (g : List ℕ) → g ≡ [] → CutsLines All a g z
-      → WritesPrefix (HasLines table marks journal stopped outcomes left) a z
+      → WritesPrefix (HasLines table marks batches journal stopped outcomes left) a z
   text_cut a z g empty cut = record {
     text = flat_map ended cut.lines;
     is_text = has_lines cut.lines cut.are;

@@ -2,8 +2,10 @@
 use Rattle.std.specs.Prelude.{◌≡◌, ℕ, Bool, List, [], ◌∷◌, ◌++◌, codes, flat_map}
 use Rattle.json.specs.Print.{quoted}
 use Rattle.dv_journal.specs.Sink.{AppendsBut, AppendsPrefix}
-use Rattle.dv_json.specs.Text.{IsEndLine, IsOutcomeLine, ended}
+use Rattle.dv_facts.specs.Parts.{IsVisible}
+use Rattle.dv_json.specs.Text.{IsEndLine, IsOutcomeLine, batches_member, ended}
 use Rattle.dv_journal.specs.Journal.{Written}
+use Rattle.dv_posts.specs.Batches.{Batch}
 use Rattle.dv_run.specs.Output.{outcome_line}
 use Rattle.dv_run.specs.Headline.{Told}
 use Rattle.dv_store.specs.declared.outcome.Outcome.{Outcome}
@@ -27,10 +29,10 @@ pub record CutsLines (AreLines : List (List ℕ) → Type 0) (old : Told) (waiti
   pub cut : AppendsPrefix old new (waiting ++ flat_map ended lines)
 
 -- the only line is one that ends a run
-pub record IsEnd (journal : Written) (stopped : Bool) (lines : List (List ℕ)) : Type 0 where
+pub record IsEnd (batches : List Batch) (journal : Written) (stopped : Bool) (lines : List (List ℕ)) : Type 0 where
   pub line : List ℕ
   pub only : lines ≡ line ∷ []
-  pub is_line : IsEndLine journal stopped line
+  pub is_line : IsEndLine batches journal stopped line
 
 -- the line of a Deferred was added
 pub record AddsOutcome (table : List Class) (number : ℕ) (outcome : Outcome) (old new : List ℕ) : Type 0 where
@@ -44,8 +46,14 @@ pub record AddsShown (table : List Class) (number : ℕ) (outcome : Outcome) (ol
   pub shows : ended shown ≡ outcome_line table number outcome
   pub grew : new ≡ old ++ (codes ",\"line\":" ++ quoted shown)
 
+-- the line that ends a run was begun, with the batches in which posts were taken
+pub record AddsWork (batches : List Batch) (old new : List ℕ) : Type 0 where
+  pub after : List ℕ
+  pub grew : new ≡ old ++ (batches_member batches ++ after)
+  pub visible : IsVisible after
+
 -- the line that ends a run was added
-pub record AddsEnd (journal : Written) (stopped : Bool) (old new : List ℕ) : Type 0 where
+pub record AddsEnd (batches : List Batch) (journal : Written) (stopped : Bool) (old new : List ℕ) : Type 0 where
   pub line : List ℕ
   pub grew : new ≡ old ++ line
-  pub is_line : IsEndLine journal stopped line
+  pub is_line : IsEndLine batches journal stopped line

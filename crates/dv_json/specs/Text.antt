@@ -12,9 +12,11 @@ use Rattle.dv_journal.specs.declared.ending.Ending.TheVariants.{Over, AtLimit, U
 use Rattle.dv_journal.specs.Journal.{Written, total_weight}
 use Rattle.dv_journal.specs.Sink.{AppendsPrefix}
 use Rattle.dv_json.specs.declared.marked.Marked.{Marked}
+use Rattle.dv_posts.specs.Batches.{Batch}
 use Rattle.dv_run.specs.Output.{outcome_line}
 use Rattle.dv_run.specs.Headline.{Told}
 use Rattle.dv_store.specs.declared.outcome.Outcome.{Outcome}
+use Rattle.dv_survey.specs.Text.{batches_text}
 use Rattle.dv_value.specs.declared.classes.Class.{Class}
 
 -- a line with its end
@@ -51,13 +53,17 @@ totals limit ending entries time weight =
     ++ (codes ",\"type\":\"end\",\"unmet\":" ++ unmet_text ending entries)
     ++ (codes ",\"weight\":" ++ decimal weight) ++ codes "}"
 
--- the line that ends a run has the limit of the journal, whether the run stopped there, the entry of what wasn't as the
--- script expects, and what the entries weigh together
-pub record IsEndLine (journal : Written) (stopped : Bool) (line : List ℕ) : Type 0 where
-  pub before : List ℕ
+-- {"batches":BATCHES
+abbrev pub batches_member : List Batch → List ℕ
+batches_member batches = codes "{\"batches\":" ++ batches_text batches
+
+-- the line that ends a run has the batches in which posts were taken, the limit of the journal, whether the run stopped
+-- there, the entry of what wasn't as the script expects, and what the entries weigh together
+pub record IsEndLine (batches : List Batch) (journal : Written) (stopped : Bool) (line : List ℕ) : Type 0 where
+  pub between : List ℕ
   pub time : ℕ
   pub is : line
-      ≡ before ++ totals journal.limit (ending_of stopped journal.entries) (length journal.entries) time
+      ≡ batches_member batches ++ between ++ totals journal.limit (ending_of stopped journal.entries) (length journal.entries) time
       (total_weight journal.entries)
   pub visible : IsVisible line
 
@@ -76,8 +82,8 @@ pub record AreSoMany (count : ℕ) (lines : List (List ℕ)) : Type 0 where
 
 -- the line that begins a run, one for each entry of the journal, one for each Deferred, so many for what is left, and
 -- the line that ends it
-pub record HasLines (table : List Class) (marks : List ℕ) (journal : Written) (stopped : Bool) (outcomes : List Outcome)
-    (left : ℕ) (text : List ℕ) : Type 0 where
+pub record HasLines (table : List Class) (marks : List ℕ) (batches : List Batch) (journal : Written) (stopped : Bool)
+    (outcomes : List Outcome) (left : ℕ) (text : List ℕ) : Type 0 where
   pub of_entries : List (List ℕ)
   pub of_deferreds : List (List ℕ)
   pub of_left : List (List ℕ)
@@ -85,13 +91,14 @@ pub record HasLines (table : List Class) (marks : List ℕ) (journal : Written) 
   pub each_entry : EachHasLine (λ number. IsEntryLine table (event_at marks number) number) 0 journal.entries of_entries
   pub each_deferred : EachHasLine (IsOutcomeLine table) 0 outcomes of_deferreds
   pub all_left : AreSoMany left of_left
-  pub end : IsEndLine journal stopped last
+  pub end : IsEndLine batches journal stopped last
   pub is : text ≡ flat_map ended (start_line ∷ of_entries ++ of_deferreds ++ of_left ++ last ∷ [])
 
 -- the text of a run that ended so
 abbrev pub IsText : List Class → Marked → List ℕ → Type 0
 IsText table end text =
-    HasLines table end.marks end.remains.journal end.remains.stopped end.remains.outcomes (length end.remains.left) text
+    HasLines table end.marks end.batches end.remains.journal end.remains.stopped end.remains.outcomes
+    (length end.remains.left) text
 
 -- a text of this kind was written
 pub record Writes (IsText : List ℕ → Type 0) (old new : Told) : Type 0 where

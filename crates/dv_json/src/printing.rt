@@ -8,7 +8,7 @@ ghost use Rattle.dv_facts.specs.Parts.{Adds, number_or_null};
 ghost use Rattle.dv_journal.specs.Ending.{ending_of, is_at_limit};
 ghost use Rattle.dv_journal.specs.Journal.{total_weight};
 ghost use Rattle.dv_journal.specs.Sink.{AppendsBut, AppendsPrefix, HasFailed};
-ghost use Rattle.dv_json.specs.Gathered.{AddsEnd, CutsLines, GathersLines, IsEnd};
+ghost use Rattle.dv_json.specs.Gathered.{AddsEnd, AddsWork, CutsLines, GathersLines, IsEnd};
 ghost use Rattle.dv_json.specs.Text.{AreSoMany, EachHasLine, HasLines, IsOutcomeLine, IsText};
 ghost use Rattle.dv_json.specs.Text.{Writes, WritesPrefix, start_line, totals, unmet_text};
 
@@ -27,6 +27,7 @@ use dv_left::Remains;
 use dv_left::left::Left;
 use dv_posts::posted::Posted;
 use dv_store::outcome::Outcome;
+use dv_survey::text::write_batches;
 use dv_value::classes::Classes;
 use dv_value::items::Items;
 use dv_value::value_text::write_json;
@@ -96,10 +97,10 @@ fn print_borrowed<W: Sink>(
     left: &mut [Left],
     sink: &mut W,
 ) -> Result<(), PrintFault>
-    ensures ok { OnOk result (Writes (HasLines classes.now run.entry.marks.now run.entry.journal.now
+    ensures ok { OnOk result (Writes (HasLines classes.now run.entry.marks.now run.entry.batches.now run.entry.journal.now
         run.entry.stopped run.entry.outcomes.now (length left.old)) (W.taken sink.old)
         (W.taken sink.new)) }
-    ensures err { OnErr result (WritesPrefix (HasLines classes.now run.entry.marks.now
+    ensures err { OnErr result (WritesPrefix (HasLines classes.now run.entry.marks.now run.entry.batches.now
         run.entry.journal.now run.entry.stopped run.entry.outcomes.now (length left.old))
         (W.taken sink.old) (W.taken sink.new)) }
     ensures kept { OnOk result (W.failures sink.new ≡ W.failures sink.old) }
@@ -127,10 +128,10 @@ fn print_lines<'r, W: Sink>(
     requires empty { string_bytes gathered.old ≡ [] }
     requires unpassed { story.old.passed ≡ 0 }
     requires marks { story.old.marks.now ≡ run.marks.now }
-    ensures ok { OnOk result (Writes (HasLines classes.now run.entry.marks.now run.entry.journal.now
+    ensures ok { OnOk result (Writes (HasLines classes.now run.entry.marks.now run.entry.batches.now run.entry.journal.now
         run.entry.stopped run.entry.outcomes.now (length left.old)) (W.taken sink.old)
         (W.taken sink.new)) }
-    ensures err { OnErr result (WritesPrefix (HasLines classes.now run.entry.marks.now
+    ensures err { OnErr result (WritesPrefix (HasLines classes.now run.entry.marks.now run.entry.batches.now
         run.entry.journal.now run.entry.stopped run.entry.outcomes.now (length left.old))
         (W.taken sink.old) (W.taken sink.new)) }
     ensures kept { OnOk result (W.failures sink.new ≡ W.failures sink.old) }
@@ -284,10 +285,10 @@ fn print_end<W: Sink>(
     gathered: &mut String,
     sink: &mut W,
 ) -> Result<(), PrintFault>
-    ensures ok { OnOk result (GathersLines (IsEnd run.entry.journal.now run.entry.stopped)
+    ensures ok { OnOk result (GathersLines (IsEnd run.entry.batches.now run.entry.journal.now run.entry.stopped)
         (W.taken sink.old) (string_bytes gathered.old) (W.taken sink.new)
         (string_bytes gathered.new)) }
-    ensures err { OnErr result (CutsLines (IsEnd run.entry.journal.now run.entry.stopped)
+    ensures err { OnErr result (CutsLines (IsEnd run.entry.batches.now run.entry.journal.now run.entry.stopped)
         (W.taken sink.old) (string_bytes gathered.old) (W.taken sink.new)) }
     ensures kept { OnOk result (W.failures sink.new ≡ W.failures sink.old) }
     ensures cause { IsErrOf result PrintFault.WriteFault
@@ -307,7 +308,7 @@ fn write_end(
     time: u64,
     out: &mut String,
 ) -> Result<(), AllocError>
-    ensures { OnOk result (AddsEnd run.entry.journal.now run.entry.stopped (string_bytes out.old)
+    ensures { OnOk result (AddsEnd run.entry.batches.now run.entry.journal.now run.entry.stopped (string_bytes out.old)
         (string_bytes out.new)) }
 {
     write_work(alloc, classes, run, out)?;
@@ -315,14 +316,14 @@ fn write_end(
 }
 
 /// Adds the batches and the jobs.
-#[tactic(auto, using(dv_facts::proofs::Added::parts))]
 fn write_work(
     alloc: Global,
     classes: &Classes,
     run: Run<'_>,
     out: &mut String,
 ) -> Result<(), AllocError>
-    ensures { OnOk result (Adds (string_bytes out.old) (string_bytes out.new)) }
+    ensures { OnOk result (AddsWork run.entry.batches.now (string_bytes out.old)
+        (string_bytes out.new)) }
 {
     write_text(out, r#"{"batches":"#)?;
     write_batches(out, run.batches)?;
@@ -375,39 +376,6 @@ fn unmet_entry(ending: Ending, entries: usize) -> Option<u64>
         Ending::Unmet => Some(entries.saturating_sub(1) as u64),
         Ending::Over | Ending::AtLimit => None,
     }
-}
-
-#[tactic(auto, using(dv_facts::proofs::Added::parts))]
-fn write_batches(out: &mut String, batches: &[Items<Posted>]) -> Result<(), AllocError>
-    ensures { OnOk result (Adds (string_bytes out.old) (string_bytes out.new)) }
-{
-    write_text(out, "[")?;
-    for (place, batch) in batches.iter().enumerate() {
-        write_comma(out, place)?;
-        write_batch(out, batch.as_slice())?;
-    }
-    write_text(out, "]")
-}
-
-#[tactic(auto, using(dv_facts::proofs::Added::parts))]
-fn write_batch(out: &mut String, batch: &[Posted]) -> Result<(), AllocError>
-    ensures { OnOk result (Adds (string_bytes out.old) (string_bytes out.new)) }
-{
-    write_text(out, "[")?;
-    for (place, posted) in batch.iter().enumerate() {
-        write_comma(out, place)?;
-        write_post(out, posted)?;
-    }
-    write_text(out, "]")
-}
-
-#[tactic(auto, using(dv_facts::proofs::Added::parts))]
-fn write_post(out: &mut String, posted: &Posted) -> Result<(), AllocError>
-    ensures { OnOk result (Adds (string_bytes out.old) (string_bytes out.new)) }
-{
-    write_number(out, "[", u64::from(posted.caller))?;
-    write_number(out, ",", u64::from(posted.index))?;
-    write_text(out, "]")
 }
 
 #[tactic(auto, using(dv_facts::proofs::Added::parts))]

@@ -1,9 +1,10 @@
 -- The keys of objects, as JSON.
-use Rattle.std.specs.Prelude.{ℕ, Bool, true, false, not, if◌then◌else◌, ◌||◌, bytes_eq, List, ◌++◌, map}
+use Rattle.std.specs.Prelude.{ℕ, Bool, true, false, if◌then◌else◌, ◌||◌, bytes_eq, List, ◌++◌, map}
 use Rattle.std.specs.Prelude.{codes}
 use Rattle.serde_json.specs.Data.{Data, unsigned, number, boolean, string, array, object, member, no_members}
 use Rattle.serde_json.specs.View.{items_of}
 use Rattle.dv_forms.specs.declared.versions.TheConstants.{COMMENTS_SINCE, FAILURES_SINCE, FIRST_VERSION, LAST_VERSION}
+use Rattle.dv_forms.specs.declared.versions.TheConstants.{RULES_SINCE}
 use Rattle.dv_forms.specs.declared.want.Leaf.{Leaf}
 use Rattle.dv_forms.specs.declared.want.Leaf.TheVariants as leaf
 use Rattle.dv_forms.specs.declared.want.Keyed.{Keyed}
@@ -16,7 +17,7 @@ use Rattle.dv_language.specs.Wants.{keyed_name, want_data}
 -- whether an object has to have a key
 abbrev pub is_needed : Keyed → List ℕ → Bool
 is_needed (keyed.Script version) key = bytes_eq key (codes "version") || bytes_eq key (codes "events")
-is_needed keyed.Cooperator key = not (bytes_eq key (codes "comment"))
+is_needed (keyed.Cooperator version) key = bytes_eq key (codes "units") || bytes_eq key (codes "delay")
 is_needed (keyed.Body version) key = false
 is_needed keyed.Failure key = bytes_eq key (codes "fail") || bytes_eq key (codes "message")
 
@@ -31,6 +32,7 @@ is_comment leaf.Boolean = false
 is_comment leaf.Bound = false
 is_comment leaf.ListFlag = false
 is_comment leaf.GatherFlag = false
+is_comment leaf.Turns = false
 is_comment leaf.Comment = true
 
 -- whether a place asks for the value of a key that may not be there
@@ -61,10 +63,16 @@ since_script key =
     if is_other (key_want (keyed.Script 2) key) then 3 else
     if is_other (key_want (keyed.Script 1) key) then 2 else since_by (key_want (keyed.Script 1) key)
 
+-- the first version in which a Cooperator may have a key
+abbrev pub since_cooperator : List ℕ → ℕ
+since_cooperator key =
+    if is_other (key_want (keyed.Cooperator FIRST_VERSION) key) then RULES_SINCE
+    else since_by (key_want (keyed.Cooperator FIRST_VERSION) key)
+
 -- the first version in which an object may have a key
 abbrev pub since : Keyed → List ℕ → ℕ
 since (keyed.Script version) key = since_script key
-since keyed.Cooperator key = since_by (key_want keyed.Cooperator key)
+since (keyed.Cooperator version) key = since_cooperator key
 since (keyed.Body version) key = since_by (key_want (keyed.Body version) key)
 since keyed.Failure key = FAILURES_SINCE
 
@@ -84,4 +92,4 @@ keys_of k = map (key_data k) (keys_in k)
 abbrev pub keys_data : Data
 keys_data = array (items_of (
     keys_of (keyed.Script LAST_VERSION)
-    ++ (keys_of keyed.Cooperator ++ (keys_of (keyed.Body FIRST_VERSION) ++ keys_of keyed.Failure))))
+    ++ (keys_of (keyed.Cooperator LAST_VERSION) ++ (keys_of (keyed.Body FIRST_VERSION) ++ keys_of keyed.Failure))))

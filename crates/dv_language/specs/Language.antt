@@ -1,8 +1,9 @@
 -- The language as JSON, and how it is printed.
 use Rattle.std.specs.Prelude.{◌≡◌, ℕ, List, [], ◌∷◌, ◌++◌, Option, Result, Ok, Err, ⊤, codes}
-use Rattle.std.specs.Io.KnownBytes.{Appends}
+use Rattle.std.specs.Io.KnownBytes.{Appends, Keeps}
 use Rattle.serde_json.specs.Data.{Data, array, item, no_items, object, member, no_members}
 use Rattle.serde_json.specs.Written.{IsInOrder}
+use Rattle.dv_journal.specs.Sink.{AppendsPrefix}
 use Rattle.dv_language.specs.declared.language.LanguageFault.{LanguageFault}
 use Rattle.dv_language.specs.declared.language.LanguageFault.TheVariants.{OutOfMemory, WriteFault}
 use Rattle.dv_language.specs.declared.language.TheConstants.{FORM}
@@ -34,6 +35,12 @@ IsLanguage d = (lines : Data) × AreLines lines × (d ≡ language_with lines)
 abbrev pub IsPrinted : Option (List ℕ) → Option (List ℕ) → Type 0
 IsPrinted before after =
     (d : Data) × (line : List ℕ) × IsLanguage d × IsInOrder line d × Appends before after (line ++ 10 ∷ [])
+
+-- what was written before each fault: nothing when out of memory, and a prefix of such a line if the writer failed
+abbrev pub GivesUp : LanguageFault → Option (List ℕ) → Option (List ℕ) → Type 0
+GivesUp OutOfMemory before after = Keeps before after
+GivesUp WriteFault before after =
+    (d : Data) × (line : List ℕ) × IsLanguage d × IsInOrder line d × AppendsPrefix before after (line ++ 10 ∷ [])
 
 -- the exit status: 0 where it is printed, and otherwise that of the fault
 abbrev pub ended_status : Result ⊤ LanguageFault → ℕ

@@ -63,6 +63,7 @@ part_data part.Value = of_type (codes "value")
 part_data part.Failure = of_type (codes "failure")
 part_data part.Text = of_type (codes "text")
 part_data part.State = of_type (codes "state")
+part_data part.Expected = of_type (codes "expected")
 
 -- a line: its word, its parts, and what it begins or ends
 abbrev pub line_data : LineForm → Data

@@ -46,7 +46,7 @@ place_name call.Outcome = codes "outcome"
 -- what has keys
 abbrev pub keyed_name : Keyed → List ℕ
 keyed_name (keyed.Script version) = codes "script"
-keyed_name keyed.Cooperator = codes "cooperator"
+keyed_name (keyed.Cooperator version) = codes "cooperator"
 keyed_name (keyed.Body since) = codes "body"
 keyed_name keyed.Failure = codes "failure"
 
@@ -73,6 +73,10 @@ list_words =
 abbrev pub gather_words : Data
 gather_words = array (item (string (codes "consumeErrors")) no_items)
 
+-- the rules of the turns of a Cooperator
+abbrev pub turn_words : Data
+turn_words = array (item (string (codes "fair")) (item (string (codes "twisted")) no_items))
+
 -- one of some flags
 abbrev pub flags : Data → Data
 flags words = object (member (codes "type") (string (codes "flag")) (member (codes "words") words no_members))
@@ -87,6 +91,7 @@ leaf_data leaf.Boolean = of_type (codes "boolean")
 leaf_data leaf.Bound = numbers (codes "bound") (unsigned 0) MOST_PLACES
 leaf_data leaf.ListFlag = flags list_words
 leaf_data leaf.GatherFlag = flags gather_words
+leaf_data leaf.Turns = flags turn_words
 leaf_data leaf.Comment = of_type (codes "text")
 
 -- what a place asks for, without what the parts of an array or a pair ask for

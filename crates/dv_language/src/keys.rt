@@ -2,11 +2,14 @@
 
 ghost use Rattle.std.specs.Prelude.{◌≡◌, ◌++◌, IfOk, OnOk, map};
 ghost use Rattle.serde_json.specs.View.{view};
-ghost use Rattle.dv_language.specs.Keys.{is_needed, is_other, since, since_by, since_script};
+ghost use Rattle.dv_language.specs.Keys.{is_needed, is_other, since, since_by, since_cooperator};
+ghost use Rattle.dv_language.specs.Keys.{since_script};
 ghost use Rattle.dv_language.specs.Keys.{key_data, keys_of, keys_data};
 
 use crate::wants::{keyed_name, want_json};
-use dv_forms::versions::{COMMENTS_SINCE, FAILURES_SINCE, FIRST_VERSION, LAST_VERSION};
+use dv_forms::versions::{
+    COMMENTS_SINCE, FAILURES_SINCE, FIRST_VERSION, LAST_VERSION, RULES_SINCE,
+};
 use dv_forms::want::{Keyed, Leaf, Want};
 use serde_json::{Value as Json, json, push};
 use std::alloc::{AllocError, Global};
@@ -17,7 +20,7 @@ fn is_needed(keyed: Keyed, key: &str) -> bool
 {
     match keyed {
         Keyed::Script(_) => key == "version" || key == "events",
-        Keyed::Cooperator => key != "comment",
+        Keyed::Cooperator(_) => key == "units" || key == "delay",
         Keyed::Body(_) => false,
         Keyed::Failure => key == "fail" || key == "message",
     }
@@ -72,13 +75,25 @@ fn since_script(key: &str) -> u32
     }
 }
 
+/// The first version in which a Cooperator may have a key that it may have in the last one.
+fn since_cooperator(key: &str) -> u32
+    ensures { result ≡ since_cooperator key.now }
+{
+    if is_other(Keyed::Cooperator(FIRST_VERSION).want(key)) {
+        RULES_SINCE
+    } else {
+        since_by(Keyed::Cooperator(FIRST_VERSION).want(key))
+    }
+}
+
 /// The first version in which an object may have a key that it may have in the last one.
 fn since(keyed: Keyed, key: &str) -> u32
     ensures { result ≡ since keyed key.now }
 {
     match keyed {
         Keyed::Script(_) => since_script(key),
-        Keyed::Cooperator | Keyed::Body(_) => since_by(keyed.want(key)),
+        Keyed::Cooperator(_) => since_cooperator(key),
+        Keyed::Body(_) => since_by(keyed.want(key)),
         Keyed::Failure => FAILURES_SINCE,
     }
 }
@@ -113,7 +128,7 @@ pub fn keys_json(alloc: Global) -> Result<Json, AllocError>
 {
     let mut rows = Vec::new(alloc);
     push_keys(alloc, &mut rows, Keyed::Script(LAST_VERSION))?;
-    push_keys(alloc, &mut rows, Keyed::Cooperator)?;
+    push_keys(alloc, &mut rows, Keyed::Cooperator(LAST_VERSION))?;
     push_keys(alloc, &mut rows, Keyed::Body(FIRST_VERSION))?;
     push_keys(alloc, &mut rows, Keyed::Failure)?;
     Ok(Json::Array(rows))

@@ -1,9 +1,9 @@
 //! The whole language, as one line of JSON.
 
-ghost use Rattle.std.specs.Prelude.{◌≡◌, OnOk, IfOk, IsErrOf};
+ghost use Rattle.std.specs.Prelude.{◌≡◌, OnOk, IfErr, IfOk, IsErrOf};
 ghost use Rattle.serde_json.specs.View.{view};
 ghost use Rattle.dv_journal.specs.Sink.{HasFailed};
-ghost use Rattle.dv_language.specs.Language.{IsLanguage, IsPrinted, language_with, versions_data};
+ghost use Rattle.dv_language.specs.Language.{GivesUp, IsLanguage, IsPrinted, language_with, versions_data};
 ghost use Rattle.dv_language.specs.Language.{ended_status, ended_text};
 
 use crate::beside::{
@@ -81,9 +81,13 @@ fn language_json(alloc: Global) -> Result<Json, AllocError>
     language_with(alloc, lines)
 }
 
-/// Writes the language as a line of JSON.
+/// Writes the language as a line of JSON. OutOfMemory when an allocation fails: nothing was
+/// written. WriteFault if the writer fails or takes no byte: a prefix of the line may have been
+/// written.
 pub fn print_language<W: Sink>(alloc: Global, writer: &mut W) -> Result<(), LanguageFault>
     ensures ok { OnOk result (IsPrinted (W.taken writer.old) (W.taken writer.new)) }
+    ensures err { IfErr result (λ fault. GivesUp fault (W.taken writer.old)
+        (W.taken writer.new)) }
     ensures write { IsErrOf result LanguageFault.WriteFault
         → HasFailed (W.failures writer.old) (W.failures writer.new) }
     ensures kept { OnOk result (W.failures writer.new ≡ W.failures writer.old) }

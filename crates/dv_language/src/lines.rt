@@ -76,6 +76,7 @@ fn part_json(alloc: Global, part: PartKind) -> Result<Json, AllocError>
         PartKind::Failure => json!(in alloc; {"type": "failure"}),
         PartKind::Text => json!(in alloc; {"type": "text"}),
         PartKind::State => json!(in alloc; {"type": "state"}),
+        PartKind::Expected => json!(in alloc; {"type": "expected"}),
     }
 }
 

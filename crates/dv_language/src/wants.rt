@@ -7,6 +7,7 @@ ghost use Rattle.serde_json.specs.Find.{of_integer};
 ghost use Rattle.serde_json.specs.View.{items_of, view};
 ghost use Rattle.dv_language.specs.Wants.{object_name, place_name, keyed_name, numbers, flags};
 ghost use Rattle.dv_language.specs.Wants.{list_words, gather_words, leaf_data, flat_data};
+ghost use Rattle.dv_language.specs.Wants.{turn_words};
 ghost use Rattle.dv_language.specs.Wants.{array_data, nested_data, turns_data, want_data};
 ghost use Rattle.dv_language.specs.Wants.{wants_data};
 
@@ -55,7 +56,7 @@ pub fn keyed_name(keyed: Keyed) -> &'static str
 {
     match keyed {
         Keyed::Script(_) => "script",
-        Keyed::Cooperator => "cooperator",
+        Keyed::Cooperator(_) => "cooperator",
         Keyed::Body(_) => "body",
         Keyed::Failure => "failure",
     }
@@ -71,6 +72,12 @@ fn gather_words(alloc: Global) -> Result<Json, AllocError>
     ensures { IfOk result (λ json. view json ≡ gather_words) }
 {
     json!(in alloc; ["consumeErrors"])
+}
+
+fn turn_words(alloc: Global) -> Result<Json, AllocError>
+    ensures { IfOk result (λ json. view json ≡ turn_words) }
+{
+    json!(in alloc; ["fair", "twisted"])
 }
 
 /// One of these words.
@@ -94,6 +101,7 @@ fn leaf_json(alloc: Global, leaf: Leaf) -> Result<Json, AllocError>
         Leaf::Bound => json!(in alloc; {"type": "bound", "least": 0u32, "most": MOST_PLACES}),
         Leaf::ListFlag => flag_json(alloc, list_words(alloc)?),
         Leaf::GatherFlag => flag_json(alloc, gather_words(alloc)?),
+        Leaf::Turns => flag_json(alloc, turn_words(alloc)?),
     }
 }
 

@@ -23,8 +23,8 @@ use Rattle.dv_laws.specs.Tasks.{tasking_of, Untasked}
 use Rattle.dv_laws.specs.Tokens.{holding_of, Unheld}
 
 -- who takes turns, in each Cooperator
-abbrev pub all_turns : List Cooperator → List Turns
-all_turns all = map (λ (one : Cooperator). one.turns) all
+abbrev pub all_turns : List Cooperator → List (List ℕ)
+all_turns all = map (λ (one : Cooperator). one.turns.tasks) all
 
 -- a Cooperator that changes otherwise, by whether it is the first of these or is found among the others
 later_changes : (k : ℕ) (change : Cooperator → Cooperator) (o : Option Cooperator) (one : Cooperator)
@@ -34,13 +34,13 @@ later_changes k change (Some found) one all = refl
 
 -- it leaves who takes turns
 pub turns_stay : (k : ℕ) (change : Cooperator → Cooperator) (all : List Cooperator)
-    → ((one : Cooperator) → (change one).turns ≡ one.turns)
+    → ((one : Cooperator) → (change one).turns.tasks ≡ one.turns.tasks)
     → all_turns (all_changed k change (slice_get all k) all) ≡ all_turns all
 turns_stay k change [] same = refl
-turns_stay zero change (one ∷ all) same = ap (λ (turns : Turns). turns ∷ all_turns all) (same one)
+turns_stay zero change (one ∷ all) same = ap (λ (tasks : List ℕ). tasks ∷ all_turns all) (same one)
 turns_stay (suc k) change (one ∷ all) same =
     ap all_turns (later_changes k change (slice_get all k) one all)
-    ∙ ap (λ (turns : List Turns). one.turns ∷ turns) (turns_stay k change all same)
+    ∙ ap (λ (tasks : List (List ℕ)). one.turns.tasks ∷ tasks) (turns_stay k change all same)
 
 -- tasks stay, or one is made, takes a step, or ends, which is logged, or is paused, resumed or awaited
 pub data Tasks (e : Entry) (c : Cooperators) : Cooperators → Type 0 where

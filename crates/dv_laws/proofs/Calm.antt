@@ -23,11 +23,13 @@ use Rattle.dv_world.specs.World.{World, step, append, fire, cancel, pause, unpau
 use Rattle.dv_world.specs.World.{child_fired_found, child_fired_in, take_due_found, waiting_cancelled, state_cancelled}
 use Rattle.dv_world.specs.World.{call_cancelled, cancel_call, waiting_reset, state_reset, call_reset, reset_call}
 use Rattle.dv_world.specs.World.{start_timer, turn_scheduled, loop_stopped, begin_turn, end_loop, task_told, task_ended}
-use Rattle.dv_world.specs.World.{tick_dropped, tick_kept, cooperator_of, keep_tick, step_taken, turn_taken}
+use Rattle.dv_world.specs.World.{tick_dropped, tick_kept, tick_wanted, cooperator_of, keep_tick, step_taken, turn_taken}
 use Rattle.dv_world.specs.World.{resume_inline, end_await, submit, deliver_later}
 use Rattle.dv_script.specs.declared.work.Work.{Work}
 use Rattle.dv_objects.specs.Cooperator.{Cooperator, Cooperators, changed, halted, with_units, with_step, result_of}
-use Rattle.dv_objects.specs.Cooperator.{unended, wants_tick, idle_tick, tick_of, turn_in}
+use Rattle.dv_objects.specs.Cooperator.{unended, wants_tick, wants_tick_at_once, with_next_turn, idle_tick, tick_of}
+use Rattle.dv_objects.specs.Cooperator.{turn_in}
+use Rattle.dv_clock.specs.Turns.{Turns, gone_on, gone_on_by, turn_of}
 use Rattle.dv_objects.specs.Objects.{Objects, with_list, with_ended_call, with_moved_call, cooperating}
 use Rattle.dv_objects.specs.Objects.{inlining}
 use Rattle.dv_objects.specs.Inlines.{resume_at, end_adding}
@@ -447,6 +449,10 @@ kept_comes k None w = same w
 kept_comes k (Some c) w =
     one_comes (wants_tick c) w _ _ (later_comes k c w) (dropped_comes k (idle_tick c) w)
 
+wanted_comes : (k : ℕ) (o : Option Cooperator) (w : World) → Quietly w (tick_wanted k o w)
+wanted_comes k None w = same w
+wanted_comes k (Some c) w = one_comes (wants_tick_at_once c) w _ _ (later_comes k c w) (same w)
+
 keep_comes : (k : ℕ) (w u : World) → Quietly w u → Quietly w (keep_tick k u)
 keep_comes k w u c = join w u _ c (kept_comes k (cooperator_of k u) u)
 
@@ -743,6 +749,7 @@ step_quiet (steps.SetUnits units) w m =
     (resting _ _ _ refl refl refl refl refl
     (turns_stay 0 (with_units units) w.objects.cooperators.all (λ one. refl)) refl refl refl) refl
 step_quiet (steps.KeepTick k) w m = keep_comes k w w (same w)
+step_quiet (steps.WantTick k) w m = wanted_comes k (cooperator_of k w) w
 step_quiet (steps.BeginTick k) w m =
     by_arrange _ w (refl, refl) Stays (λ r. r) (arranging _ _ refl
     (turns_stay k (λ c. record c { tick = None; ticking = true }) w.objects.cooperators.all (λ one. refl))
@@ -767,8 +774,8 @@ step_quiet (steps.TellPost caller index) w m =
 step_quiet (steps.TellMet d state) w m =
     by_aside (entry.Expect d state) _ w refl (tt, tt) (λ k. Leaves (refl, refl, refl)) (λ k. k)
     (resting _ _ _ refl refl refl refl refl refl refl refl refl) refl
-step_quiet (steps.TellUnmet d state) w m =
-    by_aside (entry.Unmet d state) _ w refl (tt, tt) (λ k. Leaves (refl, refl, refl)) (λ k. k)
+step_quiet (steps.TellUnmet d state expected) w m =
+    by_aside (entry.Unmet d state expected) _ w refl (tt, tt) (λ k. Leaves (refl, refl, refl)) (λ k. k)
     (resting _ _ _ refl refl refl refl refl refl refl refl refl) refl
 step_quiet (steps.TellUnbound name) w m =
     by_aside (entry.Unbound name) _ w refl (tt, tt) (λ k. Leaves (refl, refl, refl)) (λ k. k)
@@ -784,8 +791,16 @@ step_taken_comes k t (Some x) w h g =
     by_aside (entry.Step x.name) (cooperating (with_step t x)) w refl (tt, tt) (λ k. Leaves (refl, refl, refl)) (λ k. k)
     (task_beside _ _ _ (beside.TaskSteps k t x h g refl) refl refl refl) refl
 
-turn_comes : (k : ℕ) (o : Option ℕ) (w : World) → turn_in (cooperator_of k w) ≡ o → Quietly w (turn_taken o w).1
-turn_comes k None w h = same w
+-- where nobody takes turns, who takes them stays
+next_same : (o : Option ℕ) (turns : Turns) → (gone_on_by o turns).tasks ≡ turns.tasks
+next_same None turns = refl
+next_same (Some t) turns = refl
+
+turn_comes : (k : ℕ) (o : Option ℕ) (w : World) → turn_in (cooperator_of k w) ≡ o → Quietly w (turn_taken k o w).1
+turn_comes k None w h =
+    by_arrange (cooperating (with_next_turn k)) w (refl, refl) Stays (λ r. r) (arranging _ _ refl
+    (turns_stay k (λ one. record one { turns = gone_on one.turns }) w.objects.cooperators.all
+    (λ one. next_same (turn_of one.turns) one.turns)) refl refl refl) refl
 turn_comes k (Some t) w h = step_taken_comes k t (slice_get w.objects.cooperators.tasks t) w h refl
 
 pub question_quiet : (question : Question) (w : World) → AsksQuietly question → Quietly w (steps.asked question w).1

@@ -351,6 +351,7 @@ runs_rest (occurrence ∷ rest) w u h r =
 pub none_runs : (script : Script) (batches : List Batch) (w : World) → Means script batches w → w.stopped ≡ false
     → (n : ℕ) → running_at n w ≡ 0
 none_runs script batches w m h n =
-    let first = first_world script.classes script.bodies script.limit script.cooperator script.cooperators in
+    let first =
+    first_world script.classes script.bodies script.ends_throw script.limit script.cooperator script.cooperators in
     (runs_rest (occurrences script.callers script.events batches) first w m
     (record { names = none_bound first refl; idle = λ g k. refl })).idle h n

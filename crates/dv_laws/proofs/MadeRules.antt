@@ -163,7 +163,7 @@ notify_sound : (d t : ℕ) (w : World) → Sound w (page.notify d t)
 notify_sound d t w = (tt, λ x q. (tt, λ end r. tt))
 
 resume_sound : (t : ℕ) (w : World) → Sound w (page.resume_task t)
-resume_sound t w = (tt, λ x q. (tt, (tt, joined_sound x.of t _)))
+resume_sound t w = (tt, λ x q. (tt, (tt, (joined_sound x.of t _, tt))))
 
 thread_sound : (name : List ℕ) (pool : Option (List ℕ)) (delay : ℕ) (work : Work) (w : World)
     → Sound w (page.thread name pool delay work)

@@ -6,7 +6,7 @@ use Rattle.dv_value.specs.declared.value.Value.{Value, Text}
 use Rattle.dv_journal.specs.declared.entry.Entry.TheVariants as entry
 use Rattle.dv_prims.specs.Tokens.{Semaphore, is_unheld, first_waiting}
 use Rattle.dv_prims.specs.declared.gather.Flags.{Flags}
-use Rattle.dv_script.specs.declared.expected.Expected.{Expected}
+use Rattle.dv_value.specs.declared.expected.Expected.{Expected}
 use Rattle.dv_script.specs.declared.action.Action.{Action, out-Action}
 use Rattle.dv_script.specs.declared.action.Action.TheOpen.{Action-F}
 use Rattle.dv_clock.specs.declared.due.Due.{Due}
@@ -515,7 +515,8 @@ joined_mild : (k t : ℕ) (w : World) → Mildly None w (page.joined_in k t)
 joined_mild k t w = (tt, λ c e. (λ b. halt_mild t w, λ b. (tt, tt, tt)))
 
 resumed_mild : (t : ℕ) (w : World) → Mildly None w (page.resume_task t)
-resumed_mild t w = (tt, λ x e. (λ b. tt, λ b. (tt, tt, joined_mild x.of t (stepped (steps.ResumeTask t) w))))
+resumed_mild t w =
+    (tt, λ x e. (λ b. tt, λ b. (tt, tt, (λ again. joined_mild x.of t (stepped (steps.ResumeTask t) w), λ again. tt))))
 
 halt_free : (ts : List ℕ) → AllPutNothing (page.halt_all ts)
 halt_free [] = tt

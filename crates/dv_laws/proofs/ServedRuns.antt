@@ -421,10 +421,10 @@ module _ (name : List ℕ) where
       (fire_goes_on Values name d cancelled (forget l d u)))
 
 -- so it is at first
-first_served : (S : Sought) (name : List ℕ) (classes : List Class) (declared : List NamedBody) (limit : ℕ)
-    (settings : Settings) (cooperators : List NamedCooperator)
-    → Served S name (first_world classes declared limit settings cooperators)
-first_served Values name classes declared limit settings cooperators = record {
+first_served : (S : Sought) (name : List ℕ) (classes : List Class) (declared : List NamedBody) (ends_throw : Bool)
+    (limit : ℕ) (settings : Settings) (cooperators : List NamedCooperator)
+    → Served S name (first_world classes declared ends_throw limit settings cooperators)
+first_served Values name classes declared ends_throw limit settings cooperators = record {
   back = λ d. refl;
   made = refl;
   sound = tt;
@@ -432,7 +432,7 @@ first_served Values name classes declared limit settings cooperators = record {
   leads = λ c t. begins Values name;
   some = λ c. (nothing Values, begins Values name);
 }
-first_served Tokens name classes declared limit settings cooperators = record {
+first_served Tokens name classes declared ends_throw limit settings cooperators = record {
   back = λ d. refl;
   made = refl;
   sound = record { each = λ l s g. absurd (none-some s g) };
@@ -575,7 +575,8 @@ module _ (S : Sought) (name : List ℕ) where
   world_served : (script : Script) (batches : List Batch) (w : World) → Means script batches w → Served S name w
   world_served script batches w m =
       (means_keeps (Goes S name) settles script batches w m).goes_on
-      (first_served S name script.classes script.bodies script.limit script.cooperator script.cooperators)
+      (first_served S name script.classes script.bodies script.ends_throw script.limit script.cooperator
+      script.cooperators)
 
   served_stopped : (w : World) → Served S name w → made_so S name w.journal.entries ≤ 1 → (b : Bool) → w.stopped ≡ b
       → (after : Shape S) × Leads S name w.journal.entries after

@@ -491,10 +491,11 @@ module _ (R : World → World → Type 0) (k : Settles R) where
 
   -- so a run keeps it
   pub means_keeps : (script : Script) (batches : List Batch) (w : World) → Means script batches w
-      → R (first_world script.classes script.bodies script.limit script.cooperator script.cooperators) w
+      → R
+      (first_world script.classes script.bodies script.ends_throw script.limit script.cooperator script.cooperators) w
   means_keeps script batches w h =
       runs_keeps (occurrences script.callers script.events batches)
-      (first_world script.classes script.bodies script.limit script.cooperator script.cooperators) w h
+      (first_world script.classes script.bodies script.ends_throw script.limit script.cooperator script.cooperators) w h
 
 -- and what is so of the journal of each run, is so of the journal of each report
 pub reported : (P : List Entry → Type 0)

@@ -766,7 +766,8 @@ runs_watched (occurrence ∷ rest) w u h s =
 pub all_settled : (script : Script) (batches : List Batch) (w : World) → Means script batches w → w.stopped ≡ false
     → (n : ℕ) → owes_at n w ≡ 0
 all_settled script batches w m h n =
-    let first = first_world script.classes script.bodies script.limit script.cooperator script.cooperators in
+    let first =
+    first_world script.classes script.bodies script.ends_throw script.limit script.cooperator script.cooperators in
     let all = runs_watched (occurrences script.callers script.events batches) first w m (record {
       watched = λ g k. omega arith;
     }) in

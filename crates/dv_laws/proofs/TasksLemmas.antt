@@ -11,6 +11,7 @@ use Rattle.std.proofs.lemmas.Bool.Decides.{nat_tests}
 use Rattle.std.proofs.lemmas.List.Sums.{sum_by_push, sum_by-set, sum_by-cons}
 use Rattle.std.proofs.lemmas.Option.{slice_get_within, get_or_from_slice_get}
 use Rattle.std.proofs.lemmas.Slice.Eq.{bytes_eq-Decides}
+use Rattle.dv_clock.proofs.TurnsLemmas.{left_tasks}
 use Rattle.dv_clock.specs.Turns.{Turns, is_among, joined, left, place_of_turn, turn_of, gone_on, gone_on_by}
 use Rattle.dv_journal.specs.declared.entry.Entry.{Entry}
 use Rattle.dv_journal.specs.declared.entry.Entry.TheVariants as entry
@@ -242,7 +243,7 @@ turned_stands k j n m change all other here = turned_by _ k j n m change (slice_
 
 -- who takes turns stays, where the turns of each stay
 turns_found : (k : ℕ) (all : List Cooperator)
-    → taking_at k all ≡ option_map_or (λ (turns : Turns). turns.tasks) (slice_get (all_turns all) k) []
+    → taking_at k all ≡ option_map_or (λ (tasks : List ℕ). tasks) (slice_get (all_turns all) k) []
 turns_found k [] = refl
 turns_found zero (one ∷ all) = refl
 turns_found (suc k) (one ∷ all) = turns_found k all
@@ -250,7 +251,7 @@ turns_found (suc k) (one ∷ all) = turns_found k all
 taking_same : (k : ℕ) (all new : List Cooperator) → all_turns new ≡ all_turns all → taking_at k new ≡ taking_at k all
 taking_same k all new q =
     turns_found k new
-    ∙ ap (λ (l : List Turns). option_map_or (λ (turns : Turns). turns.tasks) (slice_get l k) []) q
+    ∙ ap (λ (l : List (List ℕ)). option_map_or (λ (tasks : List ℕ). tasks) (slice_get l k) []) q
     ∙ sym (turns_found k all)
 
 -- who may stand there after a task was set, or was made
@@ -457,6 +458,7 @@ ends name t end x c entries g u k =
             may_set j n t x y c.tasks g,
             left_here (nat_eq t n) n t (standing n turns.tasks) (may_stand_at j n c.tasks) refl
                 (omega (arith, ap (standing n) s, k.turns.stand j n)) (may_once j (slice_get c.tasks n)),
+            ap (standing n) (left_tasks t turns),
             leaves n t turns.tasks,
           ));
     })
@@ -464,7 +466,8 @@ ends name t end x c entries g u k =
   where
     -- in another Cooperator it didn't stand before
     left_elsewhere : (b : Bool) (j n t : ℕ) (x : Task) (tasks : List Task) → nat_eq t n ≡ b
-        → slice_get tasks t ≡ Some x → nat_eq x.of j ≡ false → may_stand_at j n tasks ≤ cond b 0 (may_stand_at j n tasks)
+        → slice_get tasks t ≡ Some x → nat_eq x.of j ≡ false
+        → may_stand_at j n tasks ≤ cond b 0 (may_stand_at j n tasks)
     left_elsewhere true j n t x tasks e h f =
         let found : slice_get tasks n ≡ Some x = ap (slice_get tasks) (sym (eqb-true t n e)) ∙ h in
         omega (arith, ap (may_stand j) found, elsewhere_by (is_none x.end) (nat_eq x.of j) f)
@@ -490,7 +493,13 @@ pauses name e t x c entries a g k =
           let old : standing n (taking_at j c.all) ≤ m =
           omega (arith, may_same j n t x y c.tasks g refl, k.turns.stand j n) in
           turned_stands x.of j n m (left t) c.all (λ f. old)
-          (λ turns f s. omega (arith, leaves n t turns.tasks, ap (standing n) s, old));
+          (λ turns f s. omega (
+            arith,
+            ap (standing n) (left_tasks t turns),
+            leaves n t turns.tasks,
+            ap (standing n) s,
+            old,
+          ));
     })
     (no_step name e _ a)
 

@@ -74,7 +74,7 @@ looping_of (entry.Units units) = Unlooped
 looping_of (entry.UnitsIn name units) = Unlooped
 looping_of (entry.StopCooperator name) = Unlooped
 looping_of (entry.Expect id state) = Unlooped
-looping_of (entry.Unmet id state) = Unlooped
+looping_of (entry.Unmet id state expected) = Unlooped
 looping_of (entry.Unbound name) = Unlooped
 
 -- it counts one where it is that a loop of this name is started

@@ -79,7 +79,7 @@ queueing_of (entry.Units units) = Unqueued
 queueing_of (entry.UnitsIn name units) = Unqueued
 queueing_of (entry.StopCooperator name) = Unqueued
 queueing_of (entry.Expect id state) = Unqueued
-queueing_of (entry.Unmet id state) = Unqueued
+queueing_of (entry.Unmet id state expected) = Unqueued
 queueing_of (entry.Unbound name) = Unqueued
 
 -- the room of a queue, and whether it has no bound, as a count

@@ -73,7 +73,7 @@ tasking_of (entry.Units units) = Untasked
 tasking_of (entry.UnitsIn name units) = Untasked
 tasking_of (entry.StopCooperator name) = Untasked
 tasking_of (entry.Expect id state) = Untasked
-tasking_of (entry.Unmet id state) = Untasked
+tasking_of (entry.Unmet id state expected) = Untasked
 tasking_of (entry.Unbound name) = Untasked
 
 -- it counts one where it is that a task of this name is made, or ends

@@ -78,7 +78,7 @@ holding_of (entry.Units units) = Unheld
 holding_of (entry.UnitsIn name units) = Unheld
 holding_of (entry.StopCooperator name) = Unheld
 holding_of (entry.Expect id state) = Unheld
-holding_of (entry.Unmet id state) = Unheld
+holding_of (entry.Unmet id state expected) = Unheld
 holding_of (entry.Unbound name) = Unheld
 
 -- it counts one where it is that a token of a lock of this name is asked for, or released

@@ -27,7 +27,7 @@ use Rattle.dv_inline.specs.declared.request.Request.{Request}
 use Rattle.dv_journal.specs.Told.{change_of, Aside}
 use Rattle.dv_journal.specs.declared.entry.Entry.TheVariants as entry
 use Rattle.dv_journal.specs.declared.entry.Entry.{Entry}
-use Rattle.dv_objects.specs.Cooperator.{turn_in, with_step}
+use Rattle.dv_objects.specs.Cooperator.{turn_in, with_next_turn, with_step}
 use Rattle.dv_objects.specs.Inlines.{Inlines, end_adding, end_adding_at}
 use Rattle.dv_objects.specs.Objects.{Objects, with_ended_call, cooperating, inlining}
 use Rattle.dv_objects.specs.Pair.{Pair}
@@ -45,7 +45,8 @@ use Rattle.dv_loop.proofs.Budget.{step_took, cancel_took, aside_took}
 use Rattle.dv_loop.proofs.Fair.{Fair, Falls, can, lighter, paid, pays}
 use Rattle.dv_loop.proofs.InlineSizes.{action_text, answer_text, run_text}
 use Rattle.dv_loop.proofs.Lighter.{IsSame, Known, Light, Lighter, Or, Pays, Within, actions_size, begun_fits, cancel}
-use Rattle.dv_loop.proofs.Lighter.{carry_out, end_task, halt_task, notify, one_if_some, paid_by, rank, text_of, waiting_by}
+use Rattle.dv_loop.proofs.Lighter.{carry_out, end_task, halt_task, notify, one_if_some, paid_by, rank, text_of}
+use Rattle.dv_loop.proofs.Lighter.{waiting_by}
 use Rattle.dv_loop.proofs.Lighter.{waiting_text}
 use Rattle.dv_loop.proofs.RuleComes.{rule_comes}
 use Rattle.dv_loop.proofs.StepsCome.{by_aside, step_comes, question_comes, due_aside}
@@ -57,7 +58,8 @@ use Rattle.dv_store.specs.declared.store.Step.TheVariants.{Nothing, Passed, Run,
 use Rattle.dv_store.specs.declared.store.Step.{Step as Move}
 use Rattle.dv_value.specs.declared.value.Value.{Value, Null, Fault}
 use Rattle.dv_world.specs.World as world
-use Rattle.dv_world.specs.World.{World, aside, arrange, cooperator_of, step_taken, turn_taken, take_due_found, end_await}
+use Rattle.dv_world.specs.World.{World, aside, arrange, cooperator_of, step_taken, turn_taken, take_due_found}
+use Rattle.dv_world.specs.World.{end_await}
 
 -- 1. A question's answer pays, and is known, as `Lighter` says.
 
@@ -108,9 +110,14 @@ step_pays t None w = omega arith
 step_pays t (Some x) w =
     unless_pays (t, slice_get x.bodies 0) (entry.Step x.name) (cooperating (with_step t x)) w _ refl refl
 
-turn_pays : (o : Option ℕ) (w : World) → can (turn_taken o w).1 + one_if_some (turn_taken o w).0 ≤ can w
-turn_pays None w = omega arith
-turn_pays (Some t) w = step_pays t (slice_get w.objects.cooperators.tasks t) w
+turn_pays : (k : ℕ) (o : Option ℕ) (w : World)
+    → can (turn_taken k o w).1 + one_if_some (turn_taken k o w).0 ≤ can w
+turn_pays k None w =
+    omega (
+      arith,
+      pays w (turn_taken k None w).1 (record { keeps = λ R l. l.by_arrange (cooperating (with_next_turn k)) w }),
+    )
+turn_pays k (Some t) w = step_pays t (slice_get w.objects.cooperators.tasks t) w
 
 due_pays : (o : Option Upcoming) (w : World) → can (take_due_found o w).1 + one_if_some (take_due_found o w).0 ≤ can w
 due_pays None w = omega arith
@@ -131,7 +138,7 @@ asked_pays (GetFrom k d) w = plain_pays (GetFrom k d) w
 asked_pays (ChildFired l i v) w = plain_pays (ChildFired l i v) w
 asked_pays (CancelCall number) w = plain_pays (CancelCall number) w
 asked_pays (ResetCall number from delay) w = plain_pays (ResetCall number from delay) w
-asked_pays (TakeStep k) w = turn_pays (turn_in (cooperator_of k w)) w
+asked_pays (TakeStep k) w = turn_pays k (turn_in (cooperator_of k w)) w
 asked_pays (EndTask t end) w = plain_pays (EndTask t end) w
 asked_pays (ResumeInline i v) w = plain_pays (ResumeInline i v) w
 asked_pays (EndAwait i e p) w = plain_pays (EndAwait i e p) w

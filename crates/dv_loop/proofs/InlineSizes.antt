@@ -1,13 +1,13 @@
 -- How much text of an inline body is left: no move adds to it, and an answer takes from it.
 use Rattle.std.proofs.Common.{◌≡◌, ℕ, ◌+◌, ◌<◌, List, arith, ◌≤◌, [], ◌∷◌, Option, None, Some, refl, ap, subst}
 use Rattle.dv_inline.proofs.Moves.{run_kept}
-use Rattle.dv_inline.specs.Meaning.{ended, no_active, raised}
+use Rattle.dv_inline.specs.Meaning.{ended, no_active, raised, thrown_by}
 use Rattle.dv_inline.specs.Position.{Position, moved, moved_by, moved_in, moved_unless, outward, run_to_request}
 use Rattle.dv_inline.specs.Position.{request_at, request_by}
 use Rattle.dv_inline.specs.Position.{request_in, request_unless, answered, answered_to, went_on, active, ahead}
 use Rattle.dv_inline.specs.Position.{class_caught}
 use Rattle.dv_inline.specs.Position.{second_for, into_second, thrown_from, thrown_to, left_from, left_to, caught_from}
-use Rattle.dv_inline.specs.Position.{out_of}
+use Rattle.dv_inline.specs.Position.{out_of, ended_from, ended_with}
 use Rattle.dv_inline.specs.declared.open.Inside.{Inside}
 use Rattle.dv_inline.specs.declared.open.Inside.TheVariants as inside
 use Rattle.dv_inline.specs.declared.open.Onward.TheVariants as onward
@@ -67,6 +67,13 @@ left_text v [] p = omega arith
 left_text v (around ∷ opens) p =
     left_at around.inside v (left_from v opens p) around.rest opens p (left_text v opens p)
 
+ended_at : (o : Option Failure) (v : Value) (p : Position) → text_of (ended_with o v p) ≤ opens_size p.opens
+ended_at None v p = left_text v p.opens p
+ended_at (Some failure) v p = thrown_text failure p.opens p
+
+ended_text : (v : Value) (p : Position) → text_of (ended_from v p) ≤ opens_size p.opens
+ended_text v p = ended_at (thrown_by p.ends_throw v) v p
+
 caught_text : (o : Option Failure) (rest : List Statement) (p : Position)
     → text_of (caught_from o rest p) ≤ 1 + statements_size rest + opens_size p.opens
 caught_text None rest p = omega (arith, thrown_text no_active p.opens p)
@@ -104,8 +111,7 @@ by_layer Statement-F.Raise s rest p h g n =
 by_layer Statement-F.Caught s rest p h g n =
     omega (arith, h, caught_text (active p.opens) rest p, ap statements_size g, ap (λ o. text_by o p) n)
 by_layer (Statement-F.End e) s rest p h g n =
-    omega
-    (arith, left_text (ended e p.value) p.opens (record p { value = Null }), ap (λ o. text_by o p) n)
+    omega (arith, ended_text (ended e p.value) (record p { value = Null }), ap (λ o. text_by o p) n)
 
 by_opens : (opens : List Open) (p : Position) → p.opens ≡ opens → p.statements ≡ [] → p.result ≡ None
     → Adds p (Some (outward opens p))

@@ -223,7 +223,8 @@ runs_mean all w after = (runs_lead all w after, lead_runs all w after)
 
 -- scripts
 abbrev first_of : Script → World
-first_of script = first_world script.classes script.bodies script.limit script.cooperator script.cooperators
+first_of script =
+    first_world script.classes script.bodies script.ends_throw script.limit script.cooperator script.cooperators
 
 pub scripts_mean_what_is_defined : ScriptsMeanWhatIsDefined
 scripts_mean_what_is_defined script batches after =

@@ -383,7 +383,7 @@ carry_out m itself (Action-F.PauseTask name) q = λ w. (tt, λ t e. λ v. (tt, �
 carry_out m itself (Action-F.StopTask name) q =
     λ w. (tt, λ t e. λ v. (tt, λ x k. (end_task m t Stopped (omega (arith, q)), λ end j. tt)))
 carry_out m itself (Action-F.ResumeTask name) q =
-    λ w. (tt, λ t e. λ v. (tt, λ x k. (tt, joined_in m x.of t (omega (arith, q)))))
+    λ w. (tt, λ t e. λ v. (tt, λ x k. (tt, (joined_in m x.of t (omega (arith, q)), tt))))
 carry_out m itself (Action-F.Inline name statements) q = λ u w v. (tt, (omega (arith, q), tt))
 carry_out m itself (Action-F.Thread name delay work) q = λ w v. (tt, λ u. tt)
 carry_out m itself (Action-F.ThreadIn name pool delay work) q = λ w v. (tt, λ u. tt)

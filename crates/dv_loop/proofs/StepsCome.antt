@@ -13,7 +13,7 @@ use Rattle.dv_journal.specs.Told.{change_of, Aside}
 use Rattle.dv_journal.specs.declared.entry.Entry.{Entry}
 use Rattle.dv_journal.specs.declared.entry.Entry.TheVariants as entry
 use Rattle.dv_objects.specs.Cooperator.{Cooperator, Cooperators, result_of, unended, tick_of, turn_in, wants_tick}
-use Rattle.dv_objects.specs.Cooperator.{idle_tick}
+use Rattle.dv_objects.specs.Cooperator.{idle_tick, wants_tick_at_once}
 use Rattle.dv_objects.specs.Inlines.{resume_at, end_adding}
 use Rattle.dv_objects.specs.Objects.{Objects, with_queue, with_list, inlining}
 use Rattle.dv_objects.specs.declared.looping_call.LoopingCall.{LoopingCall}
@@ -28,7 +28,7 @@ use Rattle.dv_definition.specs.Steps.{Step, stepped, Question, asked, Make, Name
 use Rattle.dv_definition.specs.Steps.{TellTurn, TellUnhandled, NewLock, NewSemaphore, Ask, Release, Forget, NewQueue}
 use Rattle.dv_definition.specs.Steps.{Withdraw, NewList, StartTimer, EndTimer, CallLater, NewLoop, BeginTurn}
 use Rattle.dv_definition.specs.Steps.{ScheduleTurn, StopLoop, EndLoop, NewTask, AwaitTask, PauseTask, ResumeTask}
-use Rattle.dv_definition.specs.Steps.{HoldTask, KeepTick}
+use Rattle.dv_definition.specs.Steps.{HoldTask, KeepTick, WantTick}
 use Rattle.dv_definition.specs.Steps.{NewTaskIn, SetUnitsIn, Halt}
 use Rattle.dv_definition.specs.Steps.{SetUnits, BeginBody, BeginTick, EndTick, AddInline, BeginAwait, Submit}
 use Rattle.dv_definition.specs.Steps.{DeliverLater, Advance, TellMet, TellUnmet, TellUnbound, StopRun, TellDrain}
@@ -40,7 +40,7 @@ use Rattle.dv_world.specs.World.{arrange, child_fired_found, child_fired_in, tak
 use Rattle.dv_world.specs.World.{state_cancelled}
 use Rattle.dv_world.specs.World.{call_cancelled, cancel_call, waiting_reset, state_reset, call_reset, reset_call}
 use Rattle.dv_world.specs.World.{turn_scheduled, loop_stopped, task_told, task_ended}
-use Rattle.dv_world.specs.World.{cooperator_of, tick_dropped, tick_kept, keep_tick, step_taken, turn_taken}
+use Rattle.dv_world.specs.World.{cooperator_of, tick_dropped, tick_kept, tick_wanted, keep_tick, step_taken, turn_taken}
 use Rattle.dv_world.specs.World.{resume_inline, end_await}
 
 pub same : (w : World) → Comes w w
@@ -107,6 +107,12 @@ kept_comes k None w = same w
 kept_comes k (Some c) w =
     one_comes (wants_tick c) w _ _ (by_aside (scheduling (tick_of c.name k) _) _ w (tick_aside c.name k _))
     (dropped_comes k (idle_tick c) w)
+
+wanted_comes : (k : ℕ) (o : Option Cooperator) (w : World) → Comes w (tick_wanted k o w)
+wanted_comes k None w = same w
+wanted_comes k (Some c) w =
+    one_comes (wants_tick_at_once c) w _ _ (by_aside (scheduling (tick_of c.name k) _) _ w (tick_aside c.name k _))
+    (same w)
 
 keep_comes : (k : ℕ) (w u : World) → Comes w u → Comes w (keep_tick k u)
 keep_comes k w u c = join w u _ c (kept_comes k (cooperator_of k u) u)
@@ -201,9 +207,9 @@ step_taken_comes : (t : ℕ) (o : Option Task) (w : World) → Comes w (step_tak
 step_taken_comes t None w = same w
 step_taken_comes t (Some x) w = by_aside (entry.Step x.name) _ w refl
 
-turn_taken_comes : (o : Option ℕ) (w : World) → Comes w (turn_taken o w).1
-turn_taken_comes None w = same w
-turn_taken_comes (Some t) w = step_taken_comes t (slice_get w.objects.cooperators.tasks t) w
+turn_taken_comes : (k : ℕ) (o : Option ℕ) (w : World) → Comes w (turn_taken k o w).1
+turn_taken_comes k None w = record { keeps = λ R l. l.by_arrange _ w }
+turn_taken_comes k (Some t) w = step_taken_comes t (slice_get w.objects.cooperators.tasks t) w
 
 due_comes : (o : Option Upcoming) (w : World) → Comes w (take_due_found o w).1
 due_comes None w = same w
@@ -244,6 +250,7 @@ step_comes (SetUnits units) w = by_aside (entry.Units units) _ w refl
 step_comes (SetUnitsIn k name units) w = by_aside (entry.UnitsIn name units) _ w refl
 step_comes (Halt k name) w = by_aside (entry.StopCooperator name) _ w refl
 step_comes (KeepTick k) w = keep_comes k w w (same w)
+step_comes (WantTick k) w = wanted_comes k (cooperator_of k w) w
 step_comes (BeginTick k) w = record { keeps = λ R l. l.by_arrange _ w }
 step_comes (EndTick k) w = record { keeps = λ R l. l.by_arrange _ w }
 step_comes AddInline w = record { keeps = λ R l. l.by_arrange _ w }
@@ -254,7 +261,7 @@ step_comes (Advance ticks) w = by_aside (entry.Advance _) _ w refl
 step_comes TellDrain w = by_aside entry.Drain _ w refl
 step_comes (TellPost caller index) w = by_aside (entry.Post caller index) _ w refl
 step_comes (TellMet d state) w = by_aside (entry.Expect d state) _ w refl
-step_comes (TellUnmet d state) w = by_aside (entry.Unmet d state) _ w refl
+step_comes (TellUnmet d state expected) w = by_aside (entry.Unmet d state expected) _ w refl
 step_comes (TellUnbound name) w = by_aside (entry.Unbound name) _ w refl
 step_comes StopRun w = record { keeps = λ R l. l.by_stop w }
 step_comes (Put d v) w = record { keeps = λ R l. l.by_put d v w }
@@ -268,7 +275,7 @@ question_comes (GetFrom k d) w = get_comes k d (slice_get w.objects.queues k) w
 question_comes (ChildFired l i v) w = child_fired_in_comes l i v w
 question_comes (CancelCall number) w = off_comes number w
 question_comes (ResetCall number from delay) w = anew_comes number from delay w
-question_comes (TakeStep k) w = turn_taken_comes (turn_in (cooperator_of k w)) w
+question_comes (TakeStep k) w = turn_taken_comes k (turn_in (cooperator_of k w)) w
 question_comes (EndTask t end) w = task_ended_comes t end (unended (slice_get w.objects.cooperators.tasks t)) w
 question_comes (ResumeInline i v) w = inlining_comes i v w
 question_comes (EndAwait i e p) w = end_await_comes i e p w

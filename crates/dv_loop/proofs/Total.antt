@@ -51,10 +51,11 @@ module _ (R : World → World → Type 0) (l : Lasting R) where
       l.joins w h.0 u (happens_keeps occurrence w h.0 h.1) (runs_keeps rest h.0 u h.2)
 
   pub means_keeps : (script : Script) (batches : List Batch) (w : World) → Means script batches w
-      → R (first_world script.classes script.bodies script.limit script.cooperator script.cooperators) w
+      → R
+      (first_world script.classes script.bodies script.ends_throw script.limit script.cooperator script.cooperators) w
   means_keeps script batches w h =
       runs_keeps (occurrences script.callers script.events batches)
-      (first_world script.classes script.bodies script.limit script.cooperator script.cooperators) w h
+      (first_world script.classes script.bodies script.ends_throw script.limit script.cooperator script.cooperators) w h
 
 pub happens_end : (occurrence : Occurrence) (w : World) → (u : World) × Happens occurrence w u
 happens_end occurrence w =
@@ -81,9 +82,10 @@ runs_one (occurrence ∷ rest) w u v r s =
 pub every_script_ends : EveryScriptEnds
 every_script_ends script batches =
     runs_end (occurrences script.callers script.events batches)
-    (first_world script.classes script.bodies script.limit script.cooperator script.cooperators)
+    (first_world script.classes script.bodies script.ends_throw script.limit script.cooperator script.cooperators)
 
 pub each_script_has_one_meaning : EachScriptHasOneMeaning
 each_script_has_one_meaning script batches u v r s =
     runs_one (occurrences script.callers script.events batches)
-    (first_world script.classes script.bodies script.limit script.cooperator script.cooperators) u v r s
+    (first_world script.classes script.bodies script.ends_throw script.limit script.cooperator script.cooperators) u v
+    r s

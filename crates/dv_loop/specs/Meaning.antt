@@ -31,4 +31,4 @@ Runs (occurrence ∷ occurrences) w after = (next : World) × Happens occurrence
 abbrev pub Means : Script → List Batch → World → Type 0
 Means script batches after =
     Runs (occurrences script.callers script.events batches)
-    (first_world script.classes script.bodies script.limit script.cooperator script.cooperators) after
+    (first_world script.classes script.bodies script.ends_throw script.limit script.cooperator script.cooperators) after

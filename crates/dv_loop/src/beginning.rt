@@ -16,9 +16,9 @@ use dv_objects::input::Input;
 use dv_posts::posted::Posted;
 use dv_script::body::Body;
 use dv_script::event::Event;
-use dv_script::expected::Expected;
 use dv_script::lent::BodyRef;
 use dv_value::boxed::Boxed;
+use dv_value::expected::Expected;
 use dv_value::text::Text;
 use dv_world::world::expecting::is_met;
 use std::alloc::AllocError;
@@ -62,7 +62,8 @@ fn expect(turn: &mut Turn<'_>, name: &Text, expected: &Expected) -> Result<(), A
     }
 }
 
-/// Logs what has become of a Deferred, and ends the run where it isn't as expected.
+/// Logs what has become of a Deferred. If it isn't as expected, that is logged, too, and the run
+/// ends.
 fn judge(turn: &mut Turn<'_>, id: DeferredId, expected: &Expected) -> Result<(), AllocError>
     requires done { turn.old.performed ≡ Done }
     ensures { OnOk result (turn.new ≡ after (judge id expected.now) turn.old) }
@@ -73,7 +74,8 @@ fn judge(turn: &mut Turn<'_>, id: DeferredId, expected: &Expected) -> Result<(),
     if met {
         return turn.world.tell(Entry::Expect(id, state));
     }
-    turn.world.tell(Entry::Unmet(id, state))?;
+    let expected = Boxed::new(turn.alloc, expected.copy(turn.alloc)?)?;
+    turn.world.tell(Entry::Unmet(id, state, expected))?;
     turn.world.stop();
     Ok(())
 }

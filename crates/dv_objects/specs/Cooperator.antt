@@ -9,6 +9,8 @@ use Rattle.dv_clock.specs.declared.limits.TheConstants.{MOST_DELAY}
 use Rattle.dv_script.specs.declared.body.Body.{Body}
 use Rattle.dv_script.specs.declared.script.Cooperator.{Cooperator as Settings}
 use Rattle.dv_script.specs.declared.script.NamedCooperator.{NamedCooperator}
+use Rattle.dv_script.specs.declared.turn_rule.TurnRule.{TurnRule}
+use Rattle.dv_script.specs.declared.turn_rule.TurnRule.TheVariants.{Earlier, Fair, Twisted}
 use Rattle.dv_value.specs.Builtin.{task_done, task_stopped, task_failed, scheduler_stopped}
 use Rattle.dv_value.specs.Failure.{plain_failure, fault}
 use Rattle.dv_value.specs.declared.failure.Failure.{Failure}
@@ -36,12 +38,12 @@ pub record Cooperators : Type 0 where
   pub all : List Cooperator
 
 -- nobody takes turns at first
-abbrev pub new_cooperator : Option (List ℕ) → ℕ → ℕ → Cooperator
-new_cooperator name units delay = record {
+abbrev pub new_cooperator : Option (List ℕ) → Settings → Cooperator
+new_cooperator name settings = record {
   name = name;
-  turns = new_turns;
-  units = units;
-  delay = max 1 (min delay MOST_DELAY);
+  turns = new_turns settings.turns;
+  units = settings.units;
+  delay = max 1 (min settings.delay MOST_DELAY);
   tick = None;
   ticking = false;
   stopped = false;
@@ -49,14 +51,14 @@ new_cooperator name units delay = record {
 
 -- a Cooperator that the script names
 abbrev pub named_cooperator : NamedCooperator → Cooperator
-named_cooperator c = new_cooperator (Some c.name) c.settings.units c.settings.delay
+named_cooperator c = new_cooperator (Some c.name) c.settings
 
 -- there are no tasks at first
 abbrev pub new_cooperators : Settings → List NamedCooperator → Cooperators
 new_cooperators settings named = record {
   task_names = [];
   tasks = [];
-  all = new_cooperator None settings.units settings.delay ∷ map named_cooperator named;
+  all = new_cooperator None settings ∷ map named_cooperator named;
 }
 
 -- whether a Cooperator has this name
@@ -132,6 +134,10 @@ with_step t x c = record c {
   all = turned x.of gone_on c.all;
 }
 
+-- it is the next one's turn in a Cooperator; if nobody takes turns there, the next turn is that of the first that joins
+abbrev pub with_next_turn : ℕ → Cooperators → Cooperators
+with_next_turn k c = record c { all = turned k gone_on c.all }
+
 -- a task is paused once more, and takes no turns
 abbrev pub with_pause : ℕ → Task → Cooperators → Cooperators
 with_pause t x c = record c {
@@ -139,12 +145,16 @@ with_pause t x c = record c {
   all = turned x.of (left t) c.all;
 }
 
+-- whether a task that is resumed takes turns again: it is paused once, and hasn't ended
+abbrev pub takes_turns_again : Task → Bool
+takes_turns_again x = nat_eq x.pauses 1 && is_none x.end
+
 -- a task is paused once less; where it isn't paused any more and hasn't ended, it takes turns again, last
 abbrev pub with_resume : ℕ → Task → Cooperators → Cooperators
 with_resume t x c =
     record c {
       tasks = slice_set c.tasks t (record x { pauses = x.pauses - 1 });
-      all = if nat_eq x.pauses 1 && is_none x.end then turned x.of (joined t) c.all else c.all;
+      all = if takes_turns_again x then turned x.of (joined t) c.all else c.all;
     }
 
 -- a task has ended, and takes no turns any more
@@ -162,13 +172,23 @@ with_waiting t d x c = with_task t (record x { waiting = if is_none x.end then x
 abbrev pub is_empty : Turns → Bool
 is_empty t = nat_eq (length t.tasks) 0
 
+-- whether a task that joins in a tick has the next one scheduled at once: by Twisted's rule it has
+abbrev pub ticks_overlap : TurnRule → Bool
+ticks_overlap Earlier = false
+ticks_overlap Fair = false
+ticks_overlap Twisted = true
+
 -- whether a tick is to be scheduled: somebody takes turns, and none is scheduled or under way
 abbrev pub wants_tick : Cooperator → Bool
 wants_tick c = not c.ticking && is_none c.tick && not (is_empty c.turns)
 
+-- the same as a task joins: by Twisted's rule one may be under way
+abbrev pub wants_tick_at_once : Cooperator → Bool
+wants_tick_at_once c = (not c.ticking || ticks_overlap c.turns.rule) && is_none c.tick && not (is_empty c.turns)
+
 -- the tick that is scheduled, where it is to be dropped: nobody takes turns any more
 abbrev pub idle_tick : Cooperator → Option ℕ
-idle_tick c = if c.ticking || not (is_empty c.turns) then None else c.tick
+idle_tick c = if is_empty c.turns then c.tick else None
 
 -- the next tick of the Cooperator of a number, which has this name
 abbrev pub tick_of : Option (List ℕ) → ℕ → Due

@@ -1,5 +1,5 @@
 ghost use Rattle.std.specs.Prelude.{◌≡◌, IfOk};
-ghost use Rattle.dv_objects.specs.Cooperator.{is_called, is_empty, tick_of};
+ghost use Rattle.dv_objects.specs.Cooperator.{ticks_overlap, is_called, is_empty, tick_of};
 
 use dv_clock::call_id::CallId;
 use dv_clock::cooperator_id::CooperatorId;
@@ -7,6 +7,8 @@ use dv_clock::due::Due;
 use dv_clock::interval::Interval;
 use dv_clock::turns::Turns;
 use dv_script::lent::TextRef;
+use dv_script::script::Cooperator as Settings;
+use dv_script::turn_rule::TurnRule;
 use dv_value::text::Text;
 use std::alloc::{AllocError, Global};
 use std::marker::Model;
@@ -51,16 +53,22 @@ impl<'s> Model for Cooperator<'s> {
 
 impl<'s> Cooperator<'s> {
     ghost use Rattle.dv_objects.specs.Cooperator.{new_cooperator, wants_tick, idle_tick};
+    ghost use Rattle.dv_objects.specs.Cooperator.{wants_tick_at_once};
 
     /// A Cooperator in which nobody takes turns, which takes so many steps in a tick, and from tick
     /// to tick of which it is so many ticks of the clock, or the nearest number that an interval
-    /// may have.
-    pub fn new(alloc: Global, name: Option<TextRef<'s>>, units: u32, delay: u64) -> Cooperator<'s>
-        ensures { result ≡ new_cooperator name.entry units delay }
+    /// may have; its turns go by this rule.
+    pub fn new(alloc: Global, name: Option<TextRef<'s>>, settings: Settings) -> Cooperator<'s>
+        ensures { result ≡ new_cooperator name.entry settings }
     {
+        let Settings {
+            units,
+            delay,
+            turns,
+        } = settings;
         Cooperator {
             name,
-            turns: Turns::new(alloc),
+            turns: Turns::new(alloc, turns),
             units,
             delay: Interval::new(delay),
             tick: None,
@@ -87,14 +95,23 @@ impl<'s> Cooperator<'s> {
         !self.ticking && self.tick.is_none() && self.turns.len() != 0
     }
 
+    /// The same as a task joins: by Twisted's rule a tick may be under way.
+    pub fn wants_tick_at_once(&self) -> bool
+        ensures { result ≡ wants_tick_at_once self.now }
+    {
+        (!self.ticking || ticks_overlap(self.turns.rule()))
+            && self.tick.is_none()
+            && self.turns.len() != 0
+    }
+
     /// The tick that is scheduled, where it is to be dropped, since nobody takes turns any more.
     pub fn idle_tick(&self) -> Option<CallId>
         ensures { result ≡ idle_tick self.now }
     {
-        if self.ticking || self.turns.len() != 0 {
-            None
-        } else {
+        if self.turns.len() == 0 {
             self.tick
+        } else {
+            None
         }
     }
 
@@ -106,5 +123,15 @@ impl<'s> Cooperator<'s> {
             None => Ok(Due::Tick),
             Some(name) => Ok(Due::TickIn(Text::of(alloc, name.as_str())?, id.number())),
         }
+    }
+}
+
+/// Whether a task that joins in a tick has the next one scheduled at once.
+fn ticks_overlap(rule: TurnRule) -> bool
+    ensures { result ≡ ticks_overlap rule }
+{
+    match rule {
+        TurnRule::Earlier | TurnRule::Fair => false,
+        TurnRule::Twisted => true,
     }
 }

@@ -48,10 +48,11 @@ impl<'s> Model for Cooperators<'s> {
 
 impl<'s> Cooperators<'s> {
     ghost use Rattle.std.specs.Option.{option_copied};
-    ghost use Rattle.dv_clock.specs.Turns.{gone_on, joined, left};
+    ghost use Rattle.dv_clock.specs.Turns.{joined, left};
     ghost use Rattle.dv_objects.specs.Cooperator.{changed, cooperator_named, halted};
     ghost use Rattle.dv_objects.specs.Cooperator.{new_cooperators, turn_in, turned};
-    ghost use Rattle.dv_objects.specs.Cooperator.{with_new_task, with_step};
+    ghost use Rattle.dv_objects.specs.Cooperator.{with_new_task, with_next_turn, with_step};
+    ghost use Rattle.dv_objects.specs.Cooperator.{takes_turns_again};
     ghost use Rattle.dv_objects.specs.Cooperator.{with_pause, with_resume, with_end, with_waiting};
     ghost use Rattle.dv_objects.specs.Cooperator.{changing, unended, next_body, waiting_for};
     ghost use Rattle.dv_objects.specs.Cooperator.{with_units};
@@ -68,12 +69,10 @@ impl<'s> Cooperators<'s> {
         ensures { IfOk result (λ c. c ≡ new_cooperators settings named.now) }
     {
         let mut all = Vec::new(alloc);
-        let Settings { units, delay } = settings;
-        all.push(Cooperator::new(alloc, None, units, delay))?;
+        all.push(Cooperator::new(alloc, None, settings))?;
         for one in named {
             let name = Some(TextRef::new(&one.name));
-            let Settings { units, delay } = one.settings;
-            all.push(Cooperator::new(alloc, name, units, delay))?;
+            all.push(Cooperator::new(alloc, name, one.settings))?;
         }
         Ok(Cooperators {
             alloc,
@@ -146,9 +145,10 @@ impl<'s> Cooperators<'s> {
         let _ = one.turns.remove(id);
     }
 
-    /// It is the next one's turn in a Cooperator.
-    fn go_on(&mut self, of: CooperatorId)
-        ensures { self.new ≡ record self.old { all = turned of gone_on self.old.all } }
+    /// It is the next one's turn in a Cooperator; if nobody takes turns there, the next turn is
+    /// that of the first that joins.
+    pub fn go_on(&mut self, of: CooperatorId)
+        ensures { self.new ≡ with_next_turn of self.old }
     {
         let Some(one) = self.all.get_mut(of.number()) else {
             return;
@@ -239,7 +239,7 @@ impl<'s> Cooperators<'s> {
             return Ok(());
         };
         let of = task.of;
-        let again = task.pauses == 1 && task.end.is_none();
+        let again = task.takes_turns_again();
         task.pauses = task.pauses.saturating_sub(1);
         if again {
             self.join(of, id)?;

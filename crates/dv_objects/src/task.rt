@@ -1,5 +1,5 @@
 ghost use Rattle.std.specs.Prelude.{◌≡◌, [], IfOk};
-ghost use Rattle.dv_objects.specs.Cooperator.{result_of, how_ended};
+ghost use Rattle.dv_objects.specs.Cooperator.{result_of, how_ended, takes_turns_again};
 
 use dv_clock::cooperator_id::CooperatorId;
 use dv_journal::deferred_id::DeferredId;
@@ -41,6 +41,15 @@ pub struct Task<'s> {
     pub end: Option<TaskEnd>,
     /// The Deferreds that wait for its end, in order of asking.
     pub waiting: Items<DeferredId>,
+}
+
+impl<'s> Task<'s> {
+    /// Whether it takes turns again where it is resumed: it is paused once, and hasn't ended.
+    pub fn takes_turns_again(&self) -> bool
+        ensures { result ≡ takes_turns_again self.now }
+    {
+        self.pauses == 1 && self.end.is_none()
+    }
 }
 
 impl TaskEnd {

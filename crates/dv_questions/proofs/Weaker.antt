@@ -87,7 +87,7 @@ keys_too f g k o d (key ∷ keys) h =
 
 name_too : (a b : Asked) → IsWeaker a b → (o : Keyed) (x : List ℕ) → name_suits a o x ≡ true → name_suits b o x ≡ true
 name_too a b weak (keyed.Script version) x h = refl
-name_too a b weak keyed.Cooperator x h = refl
+name_too a b weak (keyed.Cooperator v) x h = refl
 name_too a b weak keyed.Failure x h = refl
 name_too a b weak (keyed.Body since) x h = weak.leaf (leaf_of.Found object.Body) x h
 

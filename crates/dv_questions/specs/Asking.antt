@@ -66,7 +66,7 @@ keys_suit good k d (key ∷ keys) = if_there (good (key_want k key)) (get key d)
 -- of a text at the place of an object: it may name a body
 abbrev pub name_suits : Asked → Keyed → List ℕ → Bool
 name_suits a (keyed.Script version) name = true
-name_suits a keyed.Cooperator name = true
+name_suits a (keyed.Cooperator version) name = true
 name_suits a keyed.Failure name = true
 name_suits a (keyed.Body since) name = a.of_leaf (leaf.Found object.Body) name
 

@@ -44,6 +44,7 @@ is_named version leaf.Boolean name = true
 is_named version leaf.Bound name = true
 is_named version leaf.ListFlag name = true
 is_named version leaf.GatherFlag name = true
+is_named version leaf.Turns name = true
 is_named version leaf.Comment name = true
 
 -- whether a script of this version may have such an object: a body and a Cooperator by name need a later one
@@ -70,13 +71,14 @@ stands version leaf.Boolean = true
 stands version leaf.Bound = true
 stands version leaf.ListFlag = true
 stands version leaf.GatherFlag = true
+stands version leaf.Turns = true
 stands version leaf.Comment = nat_le COMMENTS_SINCE version
 
 -- whether such an object may stand in a script of this version: a failure needs a later one, and so does a body at some
 -- places
 abbrev pub object_stands : ℕ → Keyed → Bool
 object_stands version (keyed.Script v) = true
-object_stands version keyed.Cooperator = true
+object_stands version (keyed.Cooperator v) = true
 object_stands version (keyed.Body since) = nat_le since version
 object_stands version keyed.Failure = nat_le FAILURES_SINCE version
 
@@ -100,6 +102,7 @@ is_class leaf.Boolean = false
 is_class leaf.Bound = false
 is_class leaf.ListFlag = false
 is_class leaf.GatherFlag = false
+is_class leaf.Turns = false
 is_class leaf.Comment = false
 
 -- whether a pool is looked up there
@@ -122,6 +125,7 @@ is_pool leaf.Boolean = false
 is_pool leaf.Bound = false
 is_pool leaf.ListFlag = false
 is_pool leaf.GatherFlag = false
+is_pool leaf.Turns = false
 is_pool leaf.Comment = false
 
 -- whether a body is looked up there
@@ -144,6 +148,7 @@ is_body leaf.Boolean = false
 is_body leaf.Bound = false
 is_body leaf.ListFlag = false
 is_body leaf.GatherFlag = false
+is_body leaf.Turns = false
 is_body leaf.Comment = false
 
 -- whether a Cooperator is looked up there
@@ -166,6 +171,7 @@ is_cooperator leaf.Boolean = false
 is_cooperator leaf.Bound = false
 is_cooperator leaf.ListFlag = false
 is_cooperator leaf.GatherFlag = false
+is_cooperator leaf.Turns = false
 is_cooperator leaf.Comment = false
 
 -- whether a class that is looked up is in this table

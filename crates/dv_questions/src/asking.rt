@@ -39,7 +39,7 @@ fn name_suits(question: &Question<'_>, keyed: Keyed, name: &str) -> bool
     ensures { result ≡ name_suits (asked_by question.now) keyed name.now }
 {
     match keyed {
-        Keyed::Script(_) | Keyed::Cooperator | Keyed::Failure => true,
+        Keyed::Script(_) | Keyed::Cooperator(_) | Keyed::Failure => true,
         Keyed::Body(_) => question.of_leaf(Leaf::Found(Object::Body), name),
     }
 }

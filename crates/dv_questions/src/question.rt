@@ -66,6 +66,7 @@ pub fn is_named(version: u32, leaf: Leaf, name: &str) -> bool
         | Leaf::Bound
         | Leaf::ListFlag
         | Leaf::GatherFlag
+        | Leaf::Turns
         | Leaf::Comment => true,
     }
 }
@@ -102,7 +103,8 @@ fn stands(version: u32, leaf: Leaf) -> bool
         | Leaf::Boolean
         | Leaf::Bound
         | Leaf::ListFlag
-        | Leaf::GatherFlag => true,
+        | Leaf::GatherFlag
+        | Leaf::Turns => true,
     }
 }
 
@@ -113,7 +115,7 @@ pub fn object_stands(version: u32, keyed: Keyed) -> bool
     match keyed {
         Keyed::Failure => FAILURES_SINCE <= version,
         Keyed::Body(since) => since <= version,
-        Keyed::Script(_) | Keyed::Cooperator => true,
+        Keyed::Script(_) | Keyed::Cooperator(_) => true,
     }
 }
 
@@ -142,6 +144,7 @@ pub fn is_class(leaf: Leaf) -> bool
         | Leaf::Bound
         | Leaf::ListFlag
         | Leaf::GatherFlag
+        | Leaf::Turns
         | Leaf::Comment => false,
     }
 }
@@ -171,6 +174,7 @@ pub fn is_pool(leaf: Leaf) -> bool
         | Leaf::Bound
         | Leaf::ListFlag
         | Leaf::GatherFlag
+        | Leaf::Turns
         | Leaf::Comment => false,
     }
 }
@@ -200,6 +204,7 @@ pub fn is_body(leaf: Leaf) -> bool
         | Leaf::Bound
         | Leaf::ListFlag
         | Leaf::GatherFlag
+        | Leaf::Turns
         | Leaf::Comment => false,
     }
 }
@@ -229,6 +234,7 @@ pub fn is_cooperator(leaf: Leaf) -> bool
         | Leaf::Bound
         | Leaf::ListFlag
         | Leaf::GatherFlag
+        | Leaf::Turns
         | Leaf::Comment => false,
     }
 }
@@ -321,7 +327,8 @@ fn suits_every(
         | Leaf::Boolean
         | Leaf::Bound
         | Leaf::ListFlag
-        | Leaf::GatherFlag => true,
+        | Leaf::GatherFlag
+        | Leaf::Turns => true,
     }
 }
 

@@ -18,6 +18,7 @@ use Rattle.dv_grammar.specs.Grammar.{plain_cooperator, IsBody, IsEvent, acts, ad
 use Rattle.dv_grammar.specs.Grammar.{repeated, IsListed, one_event, repeats, AreListed, no_events, more_events}
 use Rattle.dv_grammar.specs.Grammar.{AreEvents, is_interval, times_body, IsNamedBody, names_body}
 use Rattle.dv_grammar.specs.Grammar.{IsNamedCooperator, names_cooperator}
+use Rattle.dv_forms.specs.declared.versions.TheConstants.{COOPERATORS_SINCE}
 use Rattle.dv_grammar.proofs.Actions.{interval_is, short_action, short_body}
 use Rattle.dv_reader.specs.Times.{times_event, times_named, KeepsTimes}
 
@@ -86,14 +87,14 @@ delay_short : (delay : ℕ) (o : Option Data) → Key (IsNumber 1 MOST_DELAY) o 
 delay_short delay None h = absurd h
 delay_short delay (Some d) h = interval_is h
 
-cooperator_short : (c : Cooperator) (o : Option Data) → Field plain_cooperator IsCooperator o c
-    → is_interval c.delay ≡ true
-cooperator_short c None h = rw h refl
-cooperator_short c (Some d) h = delay_short c.delay (get_member (codes "delay") h.members) h.delay
+cooperator_short : (version : ℕ) (c : Cooperator) (o : Option Data)
+    → Field (plain_cooperator version) (IsCooperator version) o c → is_interval c.delay ≡ true
+cooperator_short version c None h = rw h refl
+cooperator_short version c (Some d) h = delay_short c.delay (get_member (codes "delay") h.members) h.delay
 
 short_named_cooperator : (d : Data) (c : NamedCooperator) → IsNamedCooperator d c
     → is_interval c.settings.delay ≡ true
-short_named_cooperator _ _ (names_cooperator name d c g) = cooperator_short c (Some d) g
+short_named_cooperator _ _ (names_cooperator name d c g) = cooperator_short COOPERATORS_SINCE c (Some d) g
 
 cooperators_short : (cooperators : List NamedCooperator) (o : Option Data)
     → Field [] (IsList IsNamedCooperator) o cooperators
@@ -118,7 +119,8 @@ times_are_kept bytes s h =
           bodies_short h.draft.script.classes h.draft.script.bodies
           (get_member (codes "bodies") shape.members) shape.bodies;
       cooperator =
-          cooperator_short h.draft.script.cooperator (get_member (codes "cooperator") shape.members) shape.cooperator;
+          cooperator_short h.draft.version h.draft.script.cooperator (get_member (codes "cooperator") shape.members)
+          shape.cooperator;
       cooperators =
           cooperators_short h.draft.script.cooperators (get_member (codes "cooperators") shape.members)
           shape.cooperators;

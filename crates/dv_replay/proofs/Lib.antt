@@ -2,3 +2,4 @@ pub mod TakingLemmas
 pub mod ReplayLemmas
 pub mod SurveyingLemmas
 pub mod TwoRuns
+pub mod EveryRun

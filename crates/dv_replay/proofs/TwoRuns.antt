@@ -25,6 +25,8 @@ every_run script report runs =
 -- two reports that tell of one world are alike
 of_one_world : (script : Script) (a b : Report) (w : World) → ReportsOf w a → ReportsOf w b → AreAlike script script a b
 of_one_world script a b w one other = record {
+  journal = one.journal ∙ sym other.journal;
+  outcomes = one.outcomes ∙ sym other.outcomes;
   text =
       ap (λ (j : Journal). text_of script.classes j.entries ++ output script.classes a.outcomes)
       (one.journal ∙ sym other.journal)

@@ -1,5 +1,5 @@
 use crate::action::Action;
-use crate::expected::Expected;
+use dv_value::expected::Expected;
 use dv_value::text::Text;
 
 /// What happens in a script, one after the other.

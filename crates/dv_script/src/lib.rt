@@ -4,9 +4,9 @@
 pub mod action;
 pub mod body;
 pub mod event;
-pub mod expected;
 pub mod lent;
 pub mod limits;
 pub mod same;
 pub mod script;
+pub mod turn_rule;
 pub mod work;

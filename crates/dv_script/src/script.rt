@@ -1,5 +1,6 @@
 use crate::body::Body;
 use crate::event::Event;
+use crate::turn_rule::TurnRule;
 use dv_value::classes::Classes;
 use dv_value::items::Items;
 use dv_value::text::Text;
@@ -11,6 +12,8 @@ pub struct Cooperator {
     pub units: u32,
     /// How many ticks of the clock lie between two ticks of the cooperator, from 1 to 10^12.
     pub delay: u64,
+    /// Whose turn it is once a task has left.
+    pub turns: TurnRule,
 }
 
 /// A Cooperator that a script declares by its name, beside the one that each script has.
@@ -40,6 +43,9 @@ pub struct NamedBody {
 pub struct Script {
     /// The classes of its failures: those that every script has, then those that it declares.
     pub classes: Classes,
+    /// Whether an end of an inline body that fails throws its failure there, where a `try` may
+    /// catch it. Else it leaves the body with the failure.
+    pub ends_throw: bool,
     /// The most that its journal may weigh, up to 200,000.
     pub limit: u64,
     pub cooperator: Cooperator,

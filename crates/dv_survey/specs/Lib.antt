@@ -5,3 +5,4 @@ pub mod Tallies
 pub mod Survey
 pub mod Text
 pub mod Outcomes
+pub mod Laws

@@ -3,6 +3,7 @@
 #![tactic(auto)]
 
 pub mod format;
+pub mod laws;
 pub mod lines;
 pub mod outcomes;
 pub mod survey;

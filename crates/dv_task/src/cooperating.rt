@@ -2,7 +2,7 @@ ghost use Rattle.std.specs.Prelude.{◌≡◌, ◌++◌, OnOk};
 ghost use Rattle.dv_frames.specs.Bounds.{Bounded};
 ghost use Rattle.dv_definition.specs.Definition as page;
 ghost use Rattle.dv_definition.specs.Rule.{after, ◌next◌};
-ghost use Rattle.dv_definition.specs.Steps.{KeepTick, NewTask, SetUnitsIn};
+ghost use Rattle.dv_definition.specs.Steps.{NewTask, SetUnitsIn, WantTick};
 ghost use Rattle.dv_definition.specs.Words.{finished, is_over, on_cooperator, on_task};
 ghost use Rattle.dv_objects.specs.declared.performed.Performed.TheVariants.{Done, Awaits};
 
@@ -32,10 +32,10 @@ pub fn cooperate<'s>(
 ) -> Result<(), AllocError>
     requires done { turn.old.performed ≡ Done }
     ensures { OnOk result (turn.new
-        ≡ after (NewTask name.entry bodies.entry next KeepTick 0 next finished) turn.old) }
+        ≡ after (NewTask name.entry bodies.entry next WantTick 0 next finished) turn.old) }
 {
     turn.world.make_task(name, bodies)?;
-    turn.world.keep_tick(CooperatorId::new(0))
+    turn.world.want_tick(CooperatorId::new(0))
 }
 
 /// Makes a task in a Cooperator that the script names (Twisted: `Cooperator.cooperate`).
@@ -131,7 +131,7 @@ fn end_joining<'s>(turn: &mut Turn<'s>, of: CooperatorId, task: TaskId) -> Resul
     if one.stopped {
         return halt_task(turn, task);
     }
-    turn.world.keep_tick(of)
+    turn.world.want_tick(of)
 }
 
 /// Makes a Deferred that is fired when a task ends, which is given by its name (Twisted:
@@ -230,7 +230,11 @@ fn resume<'s>(turn: &mut Turn<'s>, task: TaskId) -> Result<(), AllocError>
         return Ok(());
     }
     let of = found.of;
+    let again = found.takes_turns_again();
     turn.world.resume_task(task)?;
+    if !again {
+        return Ok(());
+    }
     end_joining(turn, of, task)
 }
 
@@ -375,8 +379,8 @@ fn has_ended<'s>(world: &World<'s>, task: TaskId) -> bool
     }
 }
 
-/// Goes on with a tick of a Cooperator: takes a step, while one is left and a task takes turns; else
-/// the next tick is scheduled.
+/// Goes on with a tick of a Cooperator: takes a step, while one is left and a task takes turns;
+/// else the next tick is scheduled.
 pub fn go_on_ticking<'s>(
     turn: &mut Turn<'s>,
     of: CooperatorId,

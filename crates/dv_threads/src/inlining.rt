@@ -33,10 +33,11 @@ pub fn begin_inline<'s>(
     ensures { OnOk result (turn.new ≡ after (page.inline name.entry statements.entry) turn.old) }
 {
     let classes = turn.world.classes();
+    let ends_throw = turn.world.ends_throw();
     let of = turn.world.next_id();
     let id = turn.world.add_inline()?;
     turn.world.make(Some(name), Some(Canceller::Inline(id)))?;
-    let body = InlineBody::start(turn.alloc, classes, statements.get())?;
+    let body = InlineBody::start(turn.alloc, classes, ends_throw, statements.get())?;
     turn.stack
         .push(Frame::Inline(Inlining::Goes(Inline { id, of }, body)))
 }

@@ -1,5 +1,7 @@
 -- How much an entry of the journal weighs more for showing a value or a failure.
 use Rattle.std.specs.Prelude.{ℕ, ◌+◌, length, sum, Option, None, Some}
+use Rattle.dv_value.specs.declared.expected.Expected.{Expected}
+use Rattle.dv_value.specs.declared.expected.Expected.TheVariants as expected
 use Rattle.dv_value.specs.declared.failure.Failure.{Failure}
 use Rattle.dv_value.specs.declared.failure.Failure.TheFolds.{fold-Failure}
 use Rattle.dv_value.specs.declared.failure.Failure.TheOpen.{Failure-F}
@@ -31,3 +33,9 @@ size_step (Value-F.Fault f) = failure_size f
 -- how much a value weighs, with those inside
 abbrev pub size : Value → ℕ
 size = fold-Value ℕ size_step
+
+-- the size of the value that is expected, if one is
+abbrev pub expected_size : Expected → ℕ
+expected_size expected.Unfired = 0
+expected_size expected.Waiting = 0
+expected_size (expected.Fired value) = size value

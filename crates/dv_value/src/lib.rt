@@ -6,6 +6,7 @@ pub mod class_fault;
 pub mod class_id;
 pub mod classes;
 pub mod deque;
+pub mod expected;
 pub mod failure;
 pub mod fault;
 pub mod items;

@@ -25,7 +25,7 @@ use Rattle.dv_forms.specs.declared.want.PairKind.{PairKind}
 use Rattle.dv_forms.specs.declared.want.Item.{Item}
 use Rattle.dv_why.specs.declared.question.Question.{Question}
 use Rattle.dv_why.specs.declared.question.Question.TheVariants as question
-use Rattle.dv_forms.specs.declared.versions.TheConstants.{BODIES_SINCE, COOPERATORS_SINCE}
+use Rattle.dv_forms.specs.declared.versions.TheConstants.{BODIES_SINCE, COOPERATORS_SINCE, RULES_SINCE}
 use Rattle.dv_forms.specs.Wants.{key_want, keys_in, script_want, cooperator_want, body_want, failure_want}
 use Rattle.dv_why.specs.Fits.{first_other, is_other, suits}
 use Rattle.dv_why.specs.AllSuit.{AllSuit, all_suit, ItemsSuit, KnownSuit, OthersOf, OthersSuit, ValuesSuit}
@@ -163,13 +163,23 @@ failure_key P key all other =
     either key (codes "sub") (λ t e. subst P e all.1.1.1.0) (λ f3.
     other (rw (f0, f1, f2, f3) refl)))))
 
-cooperator_key : (P : List ℕ → Type 0) (key : List ℕ) → EachKey P (keys_in keyed.Cooperator)
-    → (cooperator_want key ≡ want.Other keyed.Cooperator → P key) → P key
-cooperator_key P key all other =
+cooperator_key : (P : List ℕ → Type 0) (version : ℕ) (b : Bool) → nat_lt version RULES_SINCE ≡ b → (key : List ℕ)
+    → EachKey P (keys_in (keyed.Cooperator version))
+    → (cooperator_want version key ≡ want.Other (keyed.Cooperator version) → P key) → P key
+cooperator_key P version true early key all other =
+    let rest : EachKey P (codes "comment" ∷ []) = rw early at all.1.1 in
     either key (codes "units") (λ t e. subst P e all.0) (λ f0.
     either key (codes "delay") (λ t e. subst P e all.1.0) (λ f1.
-    either key (codes "comment") (λ t e. subst P e all.1.1.0) (λ f2.
-    other (rw (f0, f1, f2) refl))))
+    either key (codes "turns") (λ t e. other (rw (f0, f1, t, early) refl)) (λ f2.
+    either key (codes "comment") (λ t e. subst P e rest.0) (λ f3.
+    other (rw (f0, f1, f2, f3) refl)))))
+cooperator_key P version false late key all other =
+    let rest : EachKey P (codes "turns" ∷ codes "comment" ∷ []) = rw late at all.1.1 in
+    either key (codes "units") (λ t e. subst P e all.0) (λ f0.
+    either key (codes "delay") (λ t e. subst P e all.1.0) (λ f1.
+    either key (codes "turns") (λ t e. subst P e rest.0) (λ f2.
+    either key (codes "comment") (λ t e. subst P e rest.1.0) (λ f3.
+    other (rw (f0, f1, f2, f3) refl)))))
 
 -- the first two versions are before that which may name bodies
 early : (version n : ℕ) → nat_eq version n ≡ true → nat_lt n BODIES_SINCE ≡ true → nat_lt version BODIES_SINCE ≡ true
@@ -236,7 +246,8 @@ pub known_key : (P : List ℕ → Type 0) (k : Keyed) (key : List ℕ) → EachK
     → (key_want k key ≡ want.Other k → P key) → P key
 known_key P (keyed.Script version) key all other =
     script_key P version (nat_eq version 1) (nat_eq version 2) refl refl key all other
-known_key P keyed.Cooperator key all other = cooperator_key P key all other
+known_key P (keyed.Cooperator version) key all other =
+    cooperator_key P version (nat_lt version RULES_SINCE) refl key all other
 known_key P (keyed.Body since) key all other = body_key P since key all other
 known_key P keyed.Failure key all other = failure_key P key all other
 

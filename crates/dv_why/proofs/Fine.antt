@@ -9,6 +9,9 @@ use Rattle.serde_json.specs.Data.{no_items, item, depth}
 use Rattle.serde_json.specs.Find.{at, get, get_item, as_array, as_bool, as_i64, as_str}
 use Rattle.dv_script.specs.declared.action.ListFlag.{ListFlag}
 use Rattle.dv_script.specs.declared.action.GatherFlag.{GatherFlag}
+use Rattle.dv_script.specs.declared.turn_rule.TurnRule.{TurnRule}
+use Rattle.dv_forms.specs.Parts.{turn_rule_named, turn_rule_at}
+use Rattle.dv_grammar.specs.Grammar.{IsTurnRule, fair_turns, twisted_turns}
 use Rattle.dv_script.specs.declared.limits.TheConstants.{MOST_PLACES}
 use Rattle.dv_forms.specs.Forms.{Each, IsList, IsInteger, IsNumber}
 use Rattle.dv_forms.specs.Parts.{call_at, within, integer_at, number_at, bound_at, list_flag, list_flag_at}
@@ -132,6 +135,13 @@ list_flag_of (string text) h =
     (λ is. rw (← is) (_, consumes_errors)) (λ f2.
     (let none : is_some (list_flag text) ≡ false = rw (f0, f1, f2) refl in cc))))
 list_flag_of _ h = cc
+
+pub turn_rule_of : (d : Data) → is_some (turn_rule_at d) ≡ true → (x : TurnRule) × IsTurnRule d x
+turn_rule_of (string text) h =
+    by_word text (codes "fair") (bytes_eq text (codes "fair")) refl (λ is. rw (← is) (_, fair_turns)) (λ f0.
+    by_word text (codes "twisted") (bytes_eq text (codes "twisted")) refl (λ is. rw (← is) (_, twisted_turns)) (λ f1.
+    (let none : is_some (turn_rule_named text) ≡ false = rw (f0, f1) refl in cc)))
+turn_rule_of _ h = cc
 
 pub gather_flag_of : (d : Data) → is_some (gather_flag_at d) ≡ true → (x : GatherFlag) × IsGatherFlag d x
 gather_flag_of (string text) h =

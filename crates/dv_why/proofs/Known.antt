@@ -389,7 +389,8 @@ found_name d m h shallow (inr whole) =
 
 -- refused for a class, a class is found, where each may be declared
 pub found_class : (q : Question) (d : Data) (m : Misfit) → IsOfClasses d q
-    → AllMayDeclare (version_in d) (list_in (codes "classes") d) → IsRefusedFor BadClass d → depth d ≤ MOST_LEVELS → Misfits q d m → IsBadClass d m
+    → AllMayDeclare (version_in d) (list_in (codes "classes") d) → IsRefusedFor BadClass d → depth d ≤ MOST_LEVELS
+    → Misfits q d m → IsBadClass d m
 found_class q d m of may h shallow (inl bad) = misused_class q d m of bad
 found_class q d m of may h shallow (inr whole) =
     differs (are_known d h.0) (classes_good q d h.0 of may h.1.shape h.2 (whole.1 shallow)) h.4
@@ -429,11 +430,12 @@ leaf_stands v leaf.Boolean x h = refl
 leaf_stands v leaf.Bound x h = refl
 leaf_stands v leaf.ListFlag x h = refl
 leaf_stands v leaf.GatherFlag x h = refl
+leaf_stands v leaf.Turns x h = refl
 
 -- an object that fits may stand in its version
 keyed_stands : (v : ℕ) (k : Keyed) (d : Data) → fits v (want.Keyed k) d ≡ true → object_stands v k ≡ true
 keyed_stands v (keyed.Script version) d h = refl
-keyed_stands v keyed.Cooperator d h = refl
+keyed_stands v (keyed.Cooperator version) d h = refl
 keyed_stands v (keyed.Body since) d h =
     (and_parts (nat_le since v) (is_some (as_object d) || (is_some (as_str d) && nat_le BODIES_SINCE v)) h).0
 keyed_stands v keyed.Failure d h =

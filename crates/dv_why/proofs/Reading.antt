@@ -1,6 +1,6 @@
 -- Where each part of a script fits, it reads.
 use Rattle.std.proofs.Common.{◌≡◌, ℕ, zero, suc, ◌≤◌, nat_eq}
-use Rattle.std.proofs.Common.{nat_lt}
+use Rattle.std.proofs.Common.{nat_le, nat_lt}
 use Rattle.std.proofs.Common.{Bool, true, false, List, [], ◌∷◌, ◌++◌, Option, Some, None, is_some}
 use Rattle.std.proofs.Common.{refl}
 use Rattle.std.proofs.Common.{ap, subst, arith, codes}
@@ -9,8 +9,6 @@ use Rattle.serde_json.specs.Data.{Data, string, array, object, Items, no_items, 
 use Rattle.serde_json.specs.Data.{depth}
 use Rattle.serde_json.specs.Find.{at, get_item, get_member}
 use Rattle.dv_value.specs.declared.classes.Class.{Class}
-use Rattle.dv_script.specs.declared.body.Body.{Body}
-use Rattle.dv_script.specs.declared.action.Action.{Action}
 use Rattle.dv_script.specs.declared.event.Event.{Event}
 use Rattle.dv_script.specs.declared.event.Event.TheVariants as happens
 use Rattle.dv_script.specs.declared.script.Cooperator.{Cooperator}
@@ -25,8 +23,11 @@ use Rattle.dv_forms.specs.Forms.{IsList, Field, Key, is_keyed_by, IsNumber}
 use Rattle.dv_forms.specs.Limits.{most_limit}
 use Rattle.dv_forms.specs.Table.{table_of, all_declared}
 use Rattle.dv_grammar.specs.declared.draft.Draft.{Draft}
-use Rattle.dv_grammar.specs.Grammar.{keys_of, plain_cooperator}
-use Rattle.dv_grammar.specs.Grammar.{IsBody, body}
+use Rattle.dv_grammar.specs.Grammar.{keys_of, plain_cooperator, usual_turns, IsTurnRule}
+use Rattle.dv_script.specs.declared.turn_rule.TurnRule.{TurnRule}
+use Rattle.dv_forms.specs.declared.versions.TheConstants.{RULES_SINCE}
+use Rattle.dv_why.proofs.Fine.{turn_rule_of}
+use Rattle.dv_grammar.specs.Grammar.{IsBody}
 use Rattle.dv_grammar.specs.Grammar.{acts, advances, drains, expects, IsDeclaration, declares, IsPool, pools}
 use Rattle.dv_grammar.specs.Grammar.{repeated, IsListed, one_event, repeats, AreListed, no_events, more_events}
 use Rattle.dv_grammar.specs.Grammar.{AreEvents}
@@ -34,12 +35,12 @@ use Rattle.dv_forms.specs.declared.limits.TheConstants.{MOST_TIMES}
 use Rattle.dv_grammar.specs.Grammar.{IsCooperator, IsScript, IsNamedBody, names_body, IsNamedCooperator}
 use Rattle.dv_grammar.specs.Grammar.{names_cooperator}
 use Rattle.dv_grammar.proofs.WordsLemmas.{◌&◌}
-use Rattle.dv_forms.specs.declared.versions.TheConstants.{BODIES_SINCE, COOPERATORS_SINCE, LAST_VERSION}
+use Rattle.dv_forms.specs.declared.versions.TheConstants.{BODIES_SINCE, COOPERATORS_SINCE, ENDS_THROW_SINCE}
+use Rattle.dv_forms.specs.declared.versions.TheConstants.{LAST_VERSION}
 use Rattle.dv_forms.specs.declared.want.Want.{Want}
 use Rattle.dv_forms.specs.declared.want.Want.TheVariants as want
 use Rattle.dv_forms.specs.declared.want.Leaf.TheVariants as leaf
 use Rattle.dv_forms.specs.declared.want.CallKind.TheVariants as call_of
-use Rattle.dv_forms.specs.declared.want.Keyed.{Keyed}
 use Rattle.dv_forms.specs.declared.want.Keyed.TheVariants as keyed
 use Rattle.dv_forms.specs.declared.want.Item.{Item}
 use Rattle.dv_forms.specs.declared.want.Item.TheVariants as item_of
@@ -211,34 +212,66 @@ number_field : (v n default low high : ℕ) (o : Option Data)
 number_field v n default low high None h = (default, refl)
 number_field v n default low high (Some d) h = number_fine v n low high d (h d refl)
 
-cooperator_fine : (v n : ℕ) (d : Data) → IsFine v n (want.Keyed keyed.Cooperator) d
-    → (c : Cooperator) × IsCooperator d c
-cooperator_fine v n (object ms) h =
+no_value : (o : Option Data) → ((e : Data) → o ≡ Some e → ⊥) → o ≡ None
+no_value None h = refl
+no_value (Some e) h = absurd (h e refl)
+
+rule_field : (v n : ℕ) (default : TurnRule) (o : Option Data)
+    → ((e : Data) → o ≡ Some e → IsFine v n (want.Leaf leaf.Turns) e)
+    → (rule : TurnRule) × Field default IsTurnRule o rule
+rule_field v n default None h = (default, refl)
+rule_field v n default (Some d) h = turn_rule_of d (fits_fine (h d refl))
+
+turns_field : (v n u : ℕ) (b : Bool) → nat_lt u RULES_SINCE ≡ b → (ms : Members)
+    → IsFine v n (want.Keyed (keyed.Cooperator u)) (object ms)
+    → (rule : TurnRule) × Field (usual_turns u) IsTurnRule (get_member (codes "turns") ms) rule
+turns_field v n u true early ms h =
+    let none : get_member (codes "turns") ms ≡ None = no_value (get_member (codes "turns") ms)
+    (λ e is. not_other v (keyed.Cooperator u) ms h.suit (codes "turns") e is (rw early refl)) in
+    rw none (usual_turns u, refl)
+turns_field v n u false late ms h =
+    rule_field v n (usual_turns u) (get_member (codes "turns") ms)
+    (λ e is. value_fine (codes "turns") h (rw late refl) is)
+
+cooperator_fine : (v n u : ℕ) (d : Data) → IsFine v n (want.Keyed (keyed.Cooperator u)) d
+    → (c : Cooperator) × IsCooperator u d c
+cooperator_fine v n u (object ms) h =
     let keys =
     and_parts (is_some (get_member (codes "units") ms)) (is_some (get_member (codes "delay") ms)) (fits_fine h) in
     let units =
     number_key v n 1 MOST_UNITS (get_member (codes "units") ms) keys.0 (λ e is. value_fine (codes "units") h refl is) in
     let delay = number_key v n 1 MOST_DELAY (get_member (codes "delay") ms) keys.1
-    (λ e is. value_fine (codes "delay") h refl is) in (
-      record { units = units.0; delay = delay.0 },
-      record { members = ms; whole = refl; only = cooperator_only v ms h.suit; units = units.1; delay = delay.1 },
+    (λ e is. value_fine (codes "delay") h refl is) in
+    let turns = turns_field v n u (nat_lt u RULES_SINCE) refl ms h in (
+      record { units = units.0; delay = delay.0; turns = turns.0 },
+      record {
+        members = ms;
+        whole = refl;
+        only = cooperator_only v u ms h.suit;
+        units = units.1;
+        delay = delay.1;
+        turns = turns.1;
+      },
     )
-cooperator_fine v n d h = let fit : fits v (want.Keyed keyed.Cooperator) d ≡ true = fits_fine h in cc
+cooperator_fine v n u d h = let fit : fits v (want.Keyed (keyed.Cooperator u)) d ≡ true = fits_fine h in cc
 
 named_cooperator_fine : (v n : ℕ) (d : Data) → IsFine v n (item_want item_of.NamedCooperator) d
     → (c : NamedCooperator) × IsNamedCooperator d c
 named_cooperator_fine v n (array ds) h =
-    let a = pair_fine v n (want.Leaf (leaf.New object.Cooperator)) (want.Keyed keyed.Cooperator) (array ds) ds refl
+    let a =
+    pair_fine v n (want.Leaf (leaf.New object.Cooperator)) (want.Keyed (keyed.Cooperator COOPERATORS_SINCE)) (array ds)
+    ds refl
     (fits_fine h) (λ k u e wants is. same k h wants is) in
     let t = text_of a.a (fits_fine a.one) in
-    let c = cooperator_fine v n a.b a.two in
+    let c = cooperator_fine v n COOPERATORS_SINCE a.b a.two in
     rw (a.items, t.1) (record { name = t.0; settings = c.0 }, names_cooperator t.0 a.b c.0 c.1)
 named_cooperator_fine v n d h = let fit : fits v (item_want item_of.NamedCooperator) d ≡ true = fits_fine h in cc
 
-cooperator_field : (v n : ℕ) (o : Option Data) → ((e : Data) → o ≡ Some e → IsFine v n (want.Keyed keyed.Cooperator) e)
-    → (c : Cooperator) × Field plain_cooperator IsCooperator o c
-cooperator_field v n None h = (plain_cooperator, refl)
-cooperator_field v n (Some d) h = cooperator_fine v n d (h d refl)
+cooperator_field : (v n u : ℕ) (o : Option Data)
+    → ((e : Data) → o ≡ Some e → IsFine v n (want.Keyed (keyed.Cooperator u)) e)
+    → (c : Cooperator) × Field (plain_cooperator u) (IsCooperator u) o c
+cooperator_field v n u None h = (plain_cooperator u, refl)
+cooperator_field v n u (Some d) h = cooperator_fine v n u d (h d refl)
 
 list_field : {X : Type 0} (v n : ℕ) (i : Item) (Is : Data → X → Type 0)
     → ((e : Data) → IsFine v n (item_want i) e → (x : X) × Is e x) → (o : Option Data)
@@ -247,10 +280,6 @@ list_field v n i Is one None h = ([], refl)
 list_field v n i Is one (Some d) h = list_of v n i Is one d (h d refl)
 
 -- ---- scripts
-
-no_value : (o : Option Data) → ((e : Data) → o ≡ Some e → ⊥) → o ≡ None
-no_value None h = refl
-no_value (Some e) h = absurd (h e refl)
 
 pools_field : (v n : ℕ) (b : Bool) → nat_eq v 1 ≡ b → (ms : Members)
     → IsFine v n (want.Keyed (keyed.Script v)) (object ms)
@@ -305,7 +334,7 @@ script_fine (object ms) suit =
     let limit = number_field v n USUAL_LIMIT 0 (most_limit v) (get_member (codes "limit") ms)
     (λ e is. value_fine (codes "limit") h refl is) in
     let cooperator =
-    cooperator_field v n (get_member (codes "cooperator") ms) (λ e is. value_fine (codes "cooperator") h refl is) in
+    cooperator_field v n v (get_member (codes "cooperator") ms) (λ e is. value_fine (codes "cooperator") h refl is) in
     let named = pools_field v n (nat_eq v 1) refl ms h in
     let bodied = bodies_field v n table (nat_lt v BODIES_SINCE) refl ms h in
     let scheduled = cooperators_field v n (nat_lt v COOPERATORS_SINCE) refl ms h in
@@ -319,6 +348,7 @@ script_fine (object ms) suit =
         all_declared = all_declared version.0 classes.0;
         script = record {
           classes = table;
+          ends_throw = nat_le ENDS_THROW_SINCE version.0;
           limit = limit.0;
           cooperator = cooperator.0;
           pools = named.0;
@@ -338,9 +368,11 @@ script_fine (object ms) suit =
         declared = classes.1;
         all_declared = refl;
         table = refl;
+        ends_throw = refl;
         limit = subst (λ (k : ℕ). Field USUAL_LIMIT (IsNumber 0 (most_limit k)) (get_member (codes "limit") ms) limit.0)
             same_version limit.1;
-        cooperator = cooperator.1;
+        cooperator = subst (λ (k : ℕ). Field (plain_cooperator k) (IsCooperator k) (get_member (codes "cooperator") ms)
+            cooperator.0) same_version cooperator.1;
         pools = named.1;
         bodies = bodied.1;
         cooperators = scheduled.1;

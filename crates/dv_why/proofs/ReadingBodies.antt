@@ -51,7 +51,6 @@ use Rattle.dv_forms.specs.declared.want.Want.{Want}
 use Rattle.dv_forms.specs.declared.want.Want.TheVariants as want
 use Rattle.dv_forms.specs.declared.want.Leaf.TheVariants as leaf
 use Rattle.dv_forms.specs.declared.want.CallKind.TheVariants as call_of
-use Rattle.dv_forms.specs.declared.want.Keyed.{Keyed}
 use Rattle.dv_forms.specs.declared.want.Keyed.TheVariants as keyed
 use Rattle.dv_forms.specs.declared.want.Item.TheVariants as item_of
 use Rattle.dv_forms.specs.Wants.{a_deferred, a_cooperator}

@@ -3,17 +3,16 @@ use Rattle.std.proofs.Common.{◌≡◌, ℕ, nat_le}
 use Rattle.std.proofs.Common.{true, List, Some, None, is_some}
 use Rattle.std.proofs.Common.{refl}
 use Rattle.std.proofs.lemmas.Bool.{and_parts}
-use Rattle.serde_json.specs.Data.{Data, string, array, object, Items, item}
+use Rattle.serde_json.specs.Data.{Data, string, array, Items, item}
 use Rattle.serde_json.specs.Find.{as_str}
 use Rattle.dv_value.specs.declared.classes.Class.{Class}
 use Rattle.dv_value.specs.declared.value.Value.{Fault}
 use Rattle.dv_script.specs.declared.body.End.{End}
 use Rattle.dv_script.specs.declared.body.End.TheVariants.{Return, Pass, Plus, Raise, Trap, Wait, Run, Throw}
-use Rattle.dv_script.specs.declared.body.Body.{Body}
 use Rattle.dv_script.specs.declared.work.Work.{Work}
 use Rattle.dv_script.specs.declared.work.Work.TheVariants as job_of
-use Rattle.dv_script.specs.declared.expected.Expected.{Expected}
-use Rattle.dv_script.specs.declared.expected.Expected.TheVariants as expected
+use Rattle.dv_value.specs.declared.expected.Expected.{Expected}
+use Rattle.dv_value.specs.declared.expected.Expected.TheVariants as expected
 use Rattle.dv_script.specs.declared.limits.TheConstants.{MOST_PLACE, MOST_SUM}
 use Rattle.dv_forms.specs.Forms.{IsNumber, IsClass}
 use Rattle.dv_forms.specs.Leaving.{may_leave}
@@ -26,7 +25,6 @@ use Rattle.dv_forms.specs.declared.want.Want.{Want}
 use Rattle.dv_forms.specs.declared.want.Want.TheVariants as want
 use Rattle.dv_forms.specs.declared.want.Leaf.TheVariants as leaf
 use Rattle.dv_forms.specs.declared.want.CallKind.TheVariants as call_of
-use Rattle.dv_forms.specs.declared.want.Keyed.{Keyed}
 use Rattle.dv_forms.specs.declared.want.Keyed.TheVariants as keyed
 use Rattle.dv_forms.specs.declared.want.Item.TheVariants as item_of
 use Rattle.dv_forms.specs.declared.want.Object.TheVariants as object

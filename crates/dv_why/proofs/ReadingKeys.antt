@@ -12,11 +12,9 @@ use Rattle.std.proofs.lemmas.Slice.Eq.{bytes_eq-Decides}
 use Rattle.serde_json.specs.Data.{Data, object, Members}
 use Rattle.serde_json.specs.Data.{no_members, member}
 use Rattle.serde_json.specs.Find.{as_str, get_member}
-use Rattle.dv_script.specs.declared.body.Body.{Body}
-use Rattle.dv_script.specs.declared.script.Cooperator.{Cooperator}
 use Rattle.dv_forms.specs.Forms.{has_only, is_comment, is_keyed_by}
 use Rattle.dv_grammar.specs.Grammar.{body_keys, cooperator_keys, keys_of}
-use Rattle.dv_forms.specs.declared.versions.TheConstants.{BODIES_SINCE, COMMENTS_SINCE}
+use Rattle.dv_forms.specs.declared.versions.TheConstants.{BODIES_SINCE, COMMENTS_SINCE, RULES_SINCE}
 use Rattle.dv_forms.specs.declared.want.Want.TheVariants as want
 use Rattle.dv_forms.specs.declared.want.Keyed.{Keyed}
 use Rattle.dv_forms.specs.declared.want.Keyed.TheVariants as keyed
@@ -66,13 +64,19 @@ body_only v since ms h = both (only_of body_keys ms (λ key e is.
     (λ other. absurd (not_other v (keyed.Body since) ms h key e is other))))
     (comment_of v (keyed.Body since) ms refl h)
 
-pub cooperator_only : (v : ℕ) (ms : Members) → AllSuit (question.Shape v) (want.Keyed keyed.Cooperator) (object ms)
-    → is_keyed_by cooperator_keys ms ≡ true
-cooperator_only v ms h = both (only_of cooperator_keys ms (λ key e is.
-    let P : List ℕ → Type 0 = λ x. (is_key cooperator_keys x ≡ true) in
-    known_key P keyed.Cooperator key (refl, (refl, (refl, tt)))
-    (λ other. absurd (not_other v keyed.Cooperator ms h key e is other))))
-    (comment_of v keyed.Cooperator ms refl h)
+each_cooperator_key : (u : ℕ) (b : Bool) → nat_lt u RULES_SINCE ≡ b
+    → EachKey (λ x. is_key (cooperator_keys u) x ≡ true) (keys_in (keyed.Cooperator u))
+each_cooperator_key u true early = simp early (refl, (refl, (refl, tt)))
+each_cooperator_key u false late = simp late (refl, (refl, (refl, (refl, tt))))
+
+pub cooperator_only : (v u : ℕ) (ms : Members)
+    → AllSuit (question.Shape v) (want.Keyed (keyed.Cooperator u)) (object ms)
+    → is_keyed_by (cooperator_keys u) ms ≡ true
+cooperator_only v u ms h = both (only_of (cooperator_keys u) ms (λ key e is.
+    let P : List ℕ → Type 0 = λ x. (is_key (cooperator_keys u) x ≡ true) in
+    known_key P (keyed.Cooperator u) key (each_cooperator_key u (nat_lt u RULES_SINCE) refl)
+    (λ other. absurd (not_other v (keyed.Cooperator u) ms h key e is other))))
+    (comment_of v (keyed.Cooperator u) ms refl h)
 
 each_script_key : (v : ℕ) → 1 ≤ v → (b c : Bool) → nat_eq v 1 ≡ b → nat_eq v 2 ≡ c
     → EachKey (λ x. is_key (keys_of v) x ≡ true) (keys_in (keyed.Script v))
@@ -84,7 +88,8 @@ each_script_key v low false false one two =
     let late : nat_lt v BODIES_SINCE ≡ false = since_third v low one two in
     simp (one, two, late) (refl, (refl, (refl, (refl, (refl, (refl, (refl, (refl, (refl, (refl, tt))))))))))
 
-pub script_only : (v : ℕ) → 1 ≤ v → (ms : Members) → AllSuit (question.Shape v) (want.Keyed (keyed.Script v)) (object ms)
+pub script_only : (v : ℕ) → 1 ≤ v → (ms : Members)
+    → AllSuit (question.Shape v) (want.Keyed (keyed.Script v)) (object ms)
     → is_keyed_by (keys_of v) ms ≡ true
 script_only v low ms h = both (only_of (keys_of v) ms (λ key e is.
     let P : List ℕ → Type 0 = λ x. (is_key (keys_of v) x ≡ true) in

@@ -128,7 +128,7 @@ array_is is h = rw is at h
 body_good : {q : Question} {a : Asked} → Tells q a → (o : Keyed) (x : List ℕ) → AllSuit q (want.Keyed o) (string x)
     → name_suits a o x ≡ true
 body_good t (keyed.Script version) x h = refl
-body_good t keyed.Cooperator x h = refl
+body_good t (keyed.Cooperator version) x h = refl
 body_good t keyed.Failure x h = refl
 body_good t (keyed.Body since) x h = t.body since x (here h)
 

@@ -1,6 +1,7 @@
 -- How a script of a source is explained, and how an explanation ends.
 use Rattle.std.specs.Prelude.{ℕ, ◌+◌, ◌++◌, List, [], ◌∷◌, Option, Some, None, Result, Ok, Err, codes}
-use Rattle.std.specs.Io.KnownBytes.{Appends}
+use Rattle.std.specs.Io.KnownBytes.{Appends, Keeps}
+use Rattle.dv_journal.specs.Sink.{AppendsPrefix}
 use Rattle.dv_source.specs.Source.{IsFrontOf}
 use Rattle.dv_source.specs.declared.source.ReadError.{ReadError}
 use Rattle.dv_source.specs.declared.source.ReadError.TheVariants as read
@@ -16,6 +17,14 @@ abbrev pub Explains : Option (List ℕ) → Option (List ℕ) → Option (List �
 Explains left before after fault =
     (bytes line : List ℕ) × IsFrontOf left (WIDEST_BYTES + 1) bytes × Answers bytes fault line
     × Appends before after (line ++ 10 ∷ [])
+
+-- what was written before each fault: nothing where there is no line, and a prefix of the line if the writer failed
+abbrev pub GivesUp : WhyFault → Option (List ℕ) → Option (List ℕ) → Option (List ℕ) → Type 0
+GivesUp OutOfMemory left before after = Keeps before after
+GivesUp ReadFault left before after = Keeps before after
+GivesUp WriteFault left before after =
+    (bytes line : List ℕ) × (fault : Option ScriptFault) × IsFrontOf left (WIDEST_BYTES + 1) bytes × Answers bytes fault line
+    × AppendsPrefix before after (line ++ 10 ∷ [])
 
 -- the fault of a reader
 abbrev pub of_read_error : ReadError → WhyFault

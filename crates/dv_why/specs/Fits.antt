@@ -10,6 +10,7 @@ use Rattle.serde_json.specs.View.{view}
 use Rattle.serde_json.specs.declared.value.Value.{Value}
 use Rattle.dv_forms.specs.Forms.{is_first_error}
 use Rattle.dv_forms.specs.Parts.{empty_at, text_at, integer_at, number_at, bound_at, list_flag_at, gather_flag_at}
+use Rattle.dv_forms.specs.Parts.{turn_rule_at}
 use Rattle.dv_document.specs.View.{count}
 use Rattle.dv_questions.specs.Questions.{has_object, is_body, is_cooperator, is_known, is_named, is_pool}
 use Rattle.dv_questions.specs.Questions.{object_stands}
@@ -38,6 +39,7 @@ leaf_fits version leaf.Boolean d = is_some (as_bool d)
 leaf_fits version leaf.Bound d = is_some (bound_at d)
 leaf_fits version leaf.ListFlag d = is_some (list_flag_at d)
 leaf_fits version leaf.GatherFlag d = is_some (gather_flag_at d)
+leaf_fits version leaf.Turns d = is_some (turn_rule_at d)
 leaf_fits version leaf.Comment d = nat_le COMMENTS_SINCE version && is_some (text_at d)
 
 -- a value, its items apart: no object, and no number but integers of 64 bits
@@ -88,7 +90,7 @@ is_of_class false d = not (is_some (get (codes "index") d)) && not (is_some (get
 -- whether the object has the keys that it has to have
 abbrev pub has_keys : Keyed → Data → Bool
 has_keys (keyed.Script version) d = is_some (get (codes "version") d) && is_some (get (codes "events") d)
-has_keys keyed.Cooperator d = is_some (get (codes "units") d) && is_some (get (codes "delay") d)
+has_keys (keyed.Cooperator version) d = is_some (get (codes "units") d) && is_some (get (codes "delay") d)
 has_keys (keyed.Body since) d = true
 has_keys keyed.Failure d =
     is_some (get (codes "fail") d) && is_some (get (codes "message") d) && is_of_class (is_first_error d) d
@@ -96,7 +98,7 @@ has_keys keyed.Failure d =
 -- an object of these keys, or a body by its name
 abbrev pub keyed_fits : ℕ → Keyed → Data → Bool
 keyed_fits version (keyed.Script v) d = is_some (as_object d) && has_keys (keyed.Script v) d
-keyed_fits version keyed.Cooperator d = is_some (as_object d) && has_keys keyed.Cooperator d
+keyed_fits version (keyed.Cooperator v) d = is_some (as_object d) && has_keys (keyed.Cooperator v) d
 keyed_fits version keyed.Failure d =
     is_some (as_object d) && object_stands version keyed.Failure && has_keys keyed.Failure d
 keyed_fits version (keyed.Body since) d =
@@ -161,7 +163,7 @@ leaf_suits q l (Some name) = name_suits q l name
 -- whether a text at the place of an object is what is looked for: it may name a body
 abbrev pub body_name_suits : Question → Keyed → Option (List ℕ) → Bool
 body_name_suits q (keyed.Script version) name = true
-body_name_suits q keyed.Cooperator name = true
+body_name_suits q (keyed.Cooperator version) name = true
 body_name_suits q keyed.Failure name = true
 body_name_suits q (keyed.Body since) name = leaf_suits q (leaf.Found of_object.Body) name
 

@@ -128,6 +128,7 @@ fn leaf_text(version: u32, leaf: Leaf) -> &'static str {
         Leaf::ListFlag =>
             "a flag: \"fireOnOneCallback\", \"fireOnOneErrback\" or \"consumeErrors\"",
         Leaf::GatherFlag => "the flag \"consumeErrors\"",
+        Leaf::Turns => "a rule of turns: \"fair\" or \"twisted\"",
         Leaf::Comment => comment_text(version),
     }
 }
@@ -243,7 +244,7 @@ fn body_text(version: u32) -> &'static str {
 fn keyed_text(version: u32, keyed: Keyed) -> &'static str {
     match keyed {
         Keyed::Script(_) => "a script: an object",
-        Keyed::Cooperator => "a cooperator: an object of the keys units and delay",
+        Keyed::Cooperator(_) => "a cooperator: an object of the keys units and delay",
         Keyed::Body(since) => if version < since {
             "nothing: a body stands here from version 3 on"
         } else {
@@ -290,10 +291,10 @@ fn want_text(version: u32, want: Want) -> &'static str {
 fn keys_text(version: u32, keyed: Keyed) -> &'static str {
     match keyed {
         Keyed::Script(_) => script_keys_text(version),
-        Keyed::Cooperator => if version < COMMENTS_SINCE {
+        Keyed::Cooperator(_) => if version < COMMENTS_SINCE {
             "no such key: a cooperator has units and delay"
         } else {
-            "no such key: a cooperator has units, delay and comment"
+            "no such key: a cooperator has units, delay, turns and comment"
         },
         Keyed::Body(_) => if version < COMMENTS_SINCE {
             "no such key: a body has do and end"
@@ -436,7 +437,7 @@ fn text_expected(version: u32, keyed: Keyed) -> Expected {
         } else {
             Expected::Wanted(version, Want::Leaf(Leaf::Found(Object::Body)))
         },
-        Keyed::Script(_) | Keyed::Cooperator | Keyed::Failure => {
+        Keyed::Script(_) | Keyed::Cooperator(_) | Keyed::Failure => {
             Expected::Wanted(version, Want::Keyed(keyed))
         }
     }
@@ -460,7 +461,7 @@ fn keyed_expected(version: u32, keyed: Keyed, found: &Json) -> Expected {
 fn missing_key(keyed: Keyed, json: &Json) -> Option<&'static str> {
     let keys: &'static [&'static str] = match keyed {
         Keyed::Script(_) => &["version", "events"],
-        Keyed::Cooperator => &["units", "delay"],
+        Keyed::Cooperator(_) => &["units", "delay"],
         Keyed::Body(_) | Keyed::Failure => &[],
     };
     for key in keys {

@@ -1,9 +1,9 @@
 //! Explains the script that a source gives.
 
-ghost use Rattle.std.specs.Prelude.{◌≡◌, OnOk, IfOk, IsErrOf};
+ghost use Rattle.std.specs.Prelude.{◌≡◌, IfErr, OnOk, IfOk, IsErrOf};
 ghost use Rattle.dv_journal.specs.Sink.{HasFailed};
-ghost use Rattle.dv_why.specs.Explaining.{Explains, fault_status, fault_text, ended_status};
-ghost use Rattle.dv_why.specs.Explaining.{ended_text};
+ghost use Rattle.dv_why.specs.Explaining.{Explains, GivesUp, fault_status, fault_text};
+ghost use Rattle.dv_why.specs.Explaining.{ended_status, ended_text};
 
 use crate::why::tell;
 use dv_forms::limits::WIDEST_BYTES;
@@ -62,6 +62,9 @@ impl From<ReadError> for WhyFault {
 /// Reads a script to the end of the input, or to one byte more than a script may have, and writes a
 /// line of JSON that says whether it is accepted, and where it isn't, why. Answers the refusal, if
 /// it is refused.
+///
+/// ReadFault if the reader fails, and OutOfMemory when an allocation fails: nothing was written.
+/// WriteFault if the writer fails or takes no byte: a prefix of the line may have been written.
 pub fn explain<R: Source, W: Sink>(
     alloc: Global,
     reader: &mut R,
@@ -69,6 +72,8 @@ pub fn explain<R: Source, W: Sink>(
 ) -> Result<Option<ScriptFault>, WhyFault>
     ensures ok { IfOk result (λ fault. Explains (R.left reader.old) (W.taken writer.old)
         (W.taken writer.new) fault) }
+    ensures err { IfErr result (λ fault. GivesUp fault (R.left reader.old) (W.taken writer.old)
+        (W.taken writer.new)) }
     ensures read { IsErrOf result WhyFault.ReadFault
         → HasFailed (R.failures reader.old) (R.failures reader.new) }
     ensures write { IsErrOf result WhyFault.WriteFault

@@ -108,7 +108,7 @@ fn has_keys(keyed: Keyed, json: &Json) -> bool
 {
     match keyed {
         Keyed::Script(_) => json.get("version").is_some() && json.get("events").is_some(),
-        Keyed::Cooperator => json.get("units").is_some() && json.get("delay").is_some(),
+        Keyed::Cooperator(_) => json.get("units").is_some() && json.get("delay").is_some(),
         Keyed::Body(_) => true,
         Keyed::Failure => {
             json.get("fail").is_some()
@@ -123,7 +123,7 @@ fn keyed_fits(version: u32, keyed: Keyed, json: &Json) -> bool
     ensures { result ≡ keyed_fits version keyed (view json.now) }
 {
     match keyed {
-        Keyed::Script(_) | Keyed::Cooperator => {
+        Keyed::Script(_) | Keyed::Cooperator(_) => {
             json.as_object().is_some() && has_keys(keyed, json)
         }
         Keyed::Failure => {

@@ -3,6 +3,7 @@
 ghost use Rattle.std.specs.Prelude.{◌≡◌, is_some};
 ghost use Rattle.serde_json.specs.View.{view};
 ghost use Rattle.dv_forms.specs.Parts.{number_at, bound_at, list_flag_at, gather_flag_at};
+ghost use Rattle.dv_forms.specs.Parts.{turn_rule_at};
 ghost use Rattle.dv_why.specs.Fits.{leaf_fits};
 
 use dv_forms::versions::COMMENTS_SINCE;
@@ -27,6 +28,15 @@ fn is_bound(json: &Json) -> bool
         Json::Null => true,
         Json::Number(_) => is_number(json, 0, u64::from(MOST_PLACES)),
         Json::Bool(_) | Json::String(_) | Json::Array(_) | Json::Object(_) => false,
+    }
+}
+
+fn is_turn_rule(json: &Json) -> bool
+    ensures { result ≡ is_some (turn_rule_at (view json.now)) }
+{
+    match json.as_str() {
+        Some(word) => word == "fair" || word == "twisted",
+        None => false,
     }
 }
 
@@ -63,6 +73,7 @@ pub fn leaf_fits(version: u32, leaf: Leaf, json: &Json) -> bool
         Leaf::Bound => is_bound(json),
         Leaf::ListFlag => is_list_flag(json),
         Leaf::GatherFlag => is_gather_flag(json),
+        Leaf::Turns => is_turn_rule(json),
         Leaf::Comment => COMMENTS_SINCE <= version && json.as_str().is_some(),
     }
 }

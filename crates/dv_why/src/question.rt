@@ -74,7 +74,7 @@ fn body_name_suits(question: Question<'_>, keyed: Keyed, json: &Json) -> bool
     ensures { result ≡ body_name_suits question.entry keyed (as_str (view json.now)) }
 {
     match keyed {
-        Keyed::Script(_) | Keyed::Cooperator | Keyed::Failure => true,
+        Keyed::Script(_) | Keyed::Cooperator(_) | Keyed::Failure => true,
         Keyed::Body(_) => leaf_suits(question, Leaf::Found(Object::Body), json),
     }
 }

@@ -5,11 +5,14 @@ use Rattle.std.proofs.lemmas.Bool.Decides.{eqb_tells}
 use Rattle.dv_journal.specs.Journal.{fits, with_entry}
 use Rattle.dv_journal.specs.declared.entry.Entry.{Entry}
 use Rattle.dv_journal.specs.declared.entry.Entry.TheVariants as entry
-use Rattle.dv_objects.specs.Cooperator.{Cooperators, new_task, turn_in, with_new_task, with_step, with_pause, with_resume}
+use Rattle.dv_objects.specs.Cooperator.{Cooperators, new_task, turn_in, with_new_task, with_step, with_pause}
+use Rattle.dv_objects.specs.Cooperator.{with_resume}
 use Rattle.dv_objects.specs.Cooperator.{with_end, with_waiting, result_of, unended}
 use Rattle.dv_objects.specs.Objects.{Objects, cooperating}
-use Rattle.dv_world.specs.World.{World, aside, cooperator_of, task_told, step_taken, turn_taken, task_ended}
-use Rattle.dv_world.specs.Laws.{end_in, end_of, Same, Elsewhere, Makes, MakesIn, Steps, Pauses, Resumes, Holds, Awaits, Ends}
+use Rattle.dv_world.specs.World.{World, aside, arrange, cooperator_of, task_told, step_taken, turn_taken, task_ended}
+use Rattle.dv_objects.specs.Cooperator.{with_next_turn}
+use Rattle.dv_world.specs.Laws.{end_in, end_of, Same, Elsewhere, Makes, MakesIn, Steps, Pauses, Resumes, Holds, Awaits}
+use Rattle.dv_world.specs.Laws.{Ends}
 use Rattle.dv_world.specs.Laws.{TasksEndOnce, EndedTasksAreLeftAlone}
 use Rattle.dv_objects.specs.declared.task.Task.{Task}
 use Rattle.dv_objects.specs.declared.task.TaskEnd.{TaskEnd}
@@ -99,10 +102,16 @@ steps_keep t s end (Some x) w g h =
     aside_keeps t end (entry.Step x.name) (cooperating (with_step s x)) w h
     (set_keeps w.objects.cooperators.tasks t s x (record x { bodies = drop 1 x.bodies }) end g (λ k. k) h)
 
-turns_keep : (t : ℕ) (end : TaskEnd) (o : Option ℕ) (w : World) → end_of t w ≡ Some end
-    → end_of t (turn_taken o w).1 ≡ Some end
-turns_keep t end None w h = h
-turns_keep t end (Some s) w h = steps_keep t s end (slice_get w.objects.cooperators.tasks s) w refl h
+next_keeps : (k t : ℕ) (end : TaskEnd) (w : World) (b : Bool) → end_of t w ≡ Some end
+    → end_of t (if b then w else record w { objects = cooperating (with_next_turn k) w.objects }) ≡ Some end
+next_keeps k t end w true h = h
+next_keeps k t end w false h = h
+
+turns_keep : (k t : ℕ) (end : TaskEnd) (o : Option ℕ) (w : World) → end_of t w ≡ Some end
+    → end_of t (turn_taken k o w).1 ≡ Some end
+unfolding arrange
+turns_keep k t end None w h = next_keeps k t end w w.stopped h
+turns_keep k t end (Some s) w h = steps_keep t s end (slice_get w.objects.cooperators.tasks s) w refl h
 
 -- a task that is still to end is another
 ends_keep : (t s : ℕ) (end other : TaskEnd) (x : Task) (w : World) (b : Bool) → is_some x.end ≡ b
@@ -132,7 +141,7 @@ ends_stay w _ t end h (MakesIn v k name of bodies b) =
     let before = ends_stay w v t end h b in
     aside_keeps t end (entry.TaskIn name of) (cooperating (with_new_task k name bodies)) v before
     (more_keeps v.objects.cooperators.tasks t (new_task k name bodies) end before)
-ends_stay w _ t end h (Steps v k b) = turns_keep t end (turn_in (cooperator_of k v)) v (ends_stay w v t end h b)
+ends_stay w _ t end h (Steps v k b) = turns_keep k t end (turn_in (cooperator_of k v)) v (ends_stay w v t end h b)
 ends_stay w _ t end h (Pauses v s b) =
     task_keeps with_pause pauses_spare t s end _ (slice_get v.objects.cooperators.tasks s) v refl
     (ends_stay w v t end h b)

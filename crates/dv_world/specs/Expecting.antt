@@ -4,8 +4,8 @@ use Rattle.std.specs.Option.{option_map_or}
 use Rattle.dv_journal.specs.declared.state.State.{State}
 use Rattle.dv_journal.specs.declared.state.State.TheVariants as state
 use Rattle.dv_script.specs.Same.{is_same}
-use Rattle.dv_script.specs.declared.expected.Expected.{Expected}
-use Rattle.dv_script.specs.declared.expected.Expected.TheVariants.{Unfired, Waiting, Fired}
+use Rattle.dv_value.specs.declared.expected.Expected.{Expected}
+use Rattle.dv_value.specs.declared.expected.Expected.TheVariants.{Unfired, Waiting, Fired}
 use Rattle.dv_store.specs.Outcome.{state_of}
 use Rattle.dv_world.specs.World.{World}
 

@@ -50,7 +50,7 @@ use Rattle.dv_objects.specs.Cooperator.{Cooperator, Cooperators, changed, cooper
 use Rattle.dv_objects.specs.Cooperator.{turn_in, with_new_task, with_step, with_pause, with_resume, with_end}
 use Rattle.dv_objects.specs.Cooperator.{with_units}
 use Rattle.dv_objects.specs.Cooperator.{with_waiting}
-use Rattle.dv_objects.specs.Cooperator.{result_of, unended, wants_tick, idle_tick}
+use Rattle.dv_objects.specs.Cooperator.{result_of, unended, wants_tick, wants_tick_at_once, idle_tick, with_next_turn}
 use Rattle.dv_inline.specs.Position.{Position}
 use Rattle.dv_objects.specs.Inlines.{resume_at, end_adding, now_waiting, awaited_by}
 use Rattle.dv_objects.specs.Looping.{next_due, with_turn, with_turn_begun, with_stopped, with_ended}
@@ -91,6 +91,8 @@ Records = List (Record Pair Canceller)
 pub record World : Type 0 where
   pub classes : List Class
   pub declared : List NamedBody
+  -- whether an end of an inline body that fails throws its failure
+  pub ends_throw : Bool
   pub objects : Objects
   -- the works of its jobs, and beside each the name of its pool, or nothing where that is the default one
   pub works : List Work
@@ -100,10 +102,11 @@ pub record World : Type 0 where
   pub stopped : Bool
 
 -- nothing is made and nothing is logged at first
-abbrev pub first_world : List Class → List NamedBody → ℕ → Settings → List NamedCooperator → World
-first_world classes declared limit settings named = record {
+abbrev pub first_world : List Class → List NamedBody → Bool → ℕ → Settings → List NamedCooperator → World
+first_world classes declared ends_throw limit settings named = record {
   classes = classes;
   declared = declared;
+  ends_throw = ends_throw;
   objects = no_objects settings named;
   works = [];
   pools = [];
@@ -533,13 +536,14 @@ step_taken t None w = (None, w)
 step_taken t (Some x) w =
     unless_stopped (Some (t, slice_get x.bodies 0)) (aside (entry.Step x.name) (cooperating (with_step t x)) w)
 
--- the task whose turn it is in a Cooperator takes the next step
-abbrev pub turn_taken : Option ℕ → World → Option (ℕ × Option Body) × World
-turn_taken None w = (None, w)
-turn_taken (Some t) w = step_taken t (slice_get w.objects.cooperators.tasks t) w
+-- the task whose turn it is in a Cooperator takes the next step; where nobody takes turns, the next turn is that of the
+-- first that joins
+abbrev pub turn_taken : ℕ → Option ℕ → World → Option (ℕ × Option Body) × World
+turn_taken k None w = (None, arrange (cooperating (with_next_turn k)) w)
+turn_taken k (Some t) w = step_taken t (slice_get w.objects.cooperators.tasks t) w
 
 abbrev pub take_step : ℕ → World → Option (ℕ × Option Body) × World
-take_step k w = turn_taken (turn_in (cooperator_of k w)) w
+take_step k w = turn_taken k (turn_in (cooperator_of k w)) w
 
 -- these, unless the run has stopped
 abbrev pub all_unless_stopped : List ℕ → World → List ℕ × World
@@ -574,6 +578,16 @@ tick_kept k (Some c) w = if wants_tick c then schedule_tick k c w else tick_drop
 -- outside of ticks of a Cooperator, one is scheduled while a task takes turns in it, and none while none does
 abbrev pub keep_tick : ℕ → World → World
 keep_tick k w = tick_kept k (cooperator_of k w) w
+
+-- a task has joined the Cooperator that is found
+abbrev pub tick_wanted : ℕ → Option Cooperator → World → World
+tick_wanted k None w = w
+tick_wanted k (Some c) w = if wants_tick_at_once c then schedule_tick k c w else w
+
+-- after a task has joined a Cooperator its next tick is scheduled, unless one is, or one is under way; by Twisted's
+-- rule also while one is under way
+abbrev pub want_tick : ℕ → World → World
+want_tick k w = tick_wanted k (cooperator_of k w) w
 
 -- a tick of a Cooperator is under way, or none is any more
 abbrev pub begin_tick : ℕ → World → World

@@ -63,6 +63,7 @@ pub struct World<'s> {
     alloc: Global,
     classes: &'s Classes,
     declared: &'s [NamedBody],
+    ends_throw: bool,
     names: Names<'s, DeferredId>,
     locks: Names<'s, LockId>,
     semaphores: Vec<Semaphore>,
@@ -130,6 +131,7 @@ impl<'s> Model for World<'s> {
     ghost view = { λ w. record {
       classes = w.classes.now;
       declared = w.declared.now;
+      ends_throw = w.ends_throw;
       objects = record {
         names = w.names;
         locks = w.locks;
@@ -166,27 +168,30 @@ impl<'s> World<'s> {
     ghost use Rattle.std.specs.Option.{option_copied};
     ghost use Rattle.dv_journal.specs.declared.entry.Entry.TheVariants as entry;
 
-    /// A world in which nothing is made, of a script with these classes and declared bodies, whose
-    /// journal takes so much weight, whose Cooperator takes its steps so, and which names these
-    /// others. Names are hashed with these keys.
+    /// A world in which nothing is made, of a script with these classes and declared bodies, in
+    /// which an end of an inline body throws its failure or leaves the body with it, whose journal
+    /// takes so much weight, whose Cooperator takes its steps so, and which names these others.
+    /// Names are hashed with these keys.
     pub fn new(
         alloc: Global,
         keys: RandomState,
         classes: &'s Classes,
         declared: &'s [NamedBody],
+        ends_throw: bool,
         limit: u64,
         settings: Settings,
         named: &'s [NamedCooperator],
     ) -> Result<World<'s>, AllocError>
         requires { limit < 2 ^ 32 }
         ensures { IfOk result (λ world. world
-            ≡ first_world classes.now declared.now limit settings named.now) }
+            ≡ first_world classes.now declared.now ends_throw limit settings named.now) }
     {
         let cooperators = Cooperators::new(alloc, keys, settings, named)?;
         Ok(World {
             alloc,
             classes,
             declared,
+            ends_throw,
             names: Names::new(alloc, keys),
             locks: Names::new(alloc, keys),
             semaphores: Vec::new(alloc),
@@ -212,6 +217,14 @@ impl<'s> World<'s> {
         ensures { result.now ≡ self.now.classes }
     {
         self.classes
+    }
+
+    /// Whether an end of an inline body that fails throws its failure there. Else it leaves the
+    /// body with it.
+    pub fn ends_throw(&self) -> bool
+        ensures { result ≡ self.now.ends_throw }
+    {
+        self.ends_throw
     }
 
     /// Whether an entry didn't fit into the journal, or a Deferred wasn't as the script expects, so
@@ -814,6 +827,7 @@ impl<'s> World<'s> {
             alloc: _,
             classes: _,
             declared: _,
+            ends_throw: _,
             names: _,
             locks: _,
             semaphores,

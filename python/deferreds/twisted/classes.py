@@ -62,14 +62,14 @@ class Classes:
 
     def declare(self, name: str, parent: str) -> None:
         """Makes a class of this name below another."""
-        self._add(name, type(name, (self._named(parent),), {"__init__": Exception.__init__}), parent)
+        self._add(name, type(name, (self.named(parent),), {"__init__": Exception.__init__}), parent)
 
     def get(self, name: str) -> Optional[PyClass]:
         """The class that has this name."""
         found = self._by_name.get(name)
         return BUILT_IN.get(name) if found is None else found
 
-    def _named(self, name: str) -> PyClass:
+    def named(self, name: str) -> PyClass:
         """The class that has this name. Raises KeyError where there is none."""
         found = self._by_name.get(name)
         return BUILT_IN[name] if found is None else found
@@ -109,7 +109,7 @@ class Classes:
 
     def make(self, name: str, message: str) -> BaseException:
         """A failure of this class with this message, as a script says it."""
-        cls = self._named(name)
+        cls = self.named(name)
         make: Callable[..., BaseException] = cls.__new__
         failure = make(cls, message)
         failure.args = (message,)

@@ -175,7 +175,7 @@ class Conforming:
     def _compare_random(self) -> Optional[str]:
         """Compares random scripts, and cuts those down that are shown; why it has given up, where it has."""
         seed = self._arguments.seed
-        for number, script in Scripts(seed, self._level).some(self._arguments.random, self._arguments.version):
+        for number, script in Scripts(seed, self._level).some(self._arguments.random, self._arguments.version, self._arguments.turns):
             found = self._comparison.of_script(script)
             self._count(script, found)
             name = f"random script {number} of seed {seed}, level {self._level}"

@@ -63,6 +63,17 @@ TOKENS = _numbers(_of_word("semaphore", 1))
 BOUNDS = _numbers(_of_word("queue", 1))
 SUMS = _numbers(_of_word("sum", 0))
 UNITS = _numbers(_of_key("cooperator", "units"))
+
+#: the keys that a Cooperator has to have, and for each version those that it may have
+COOPERATOR_NEEDS: FrozenSet[str] = frozenset(key.key for key in LANGUAGE.keys_of("cooperator") if key.needed)
+COOPERATOR_KEYS: Dict[int, FrozenSet[str]] = {
+    version: frozenset(key.key for key in LANGUAGE.keys_of("cooperator", version)) - COOPERATOR_NEEDS
+    for version in LANGUAGE.versions
+}
+#: the rules by which tasks may take turns, by their words
+FAIR, TWISTED = _of_key("cooperator", "turns")["words"]
+#: the first version in which a Cooperator may say which rule is its own
+TURN_RULES_SINCE = min(key.since for key in LANGUAGE.keys_of("cooperator") if key.key == "turns")
 #: the places in lists
 PLACES = _numbers(_of_word("throw", 0)["of"])
 WORKERS = _numbers(_of_key("script", "pools")["of"]["parts"][1])

@@ -3,6 +3,9 @@
 from __future__ import annotations
 
 import enum
+from typing import Dict, FrozenSet
+
+from . import grammar
 
 
 class Entry(enum.Enum):
@@ -29,3 +32,19 @@ class Entry(enum.Enum):
     TASK_LEFT_BY_STOP = "task-left-by-stop"
     HOLD_ON_AN_ENDED_TASK = "hold-on-an-ended-task"
     PYTHON_STACK = "python-stack"
+
+
+#: the entries of how tasks take turns, by the rule for that: those that a Cooperator of a script can reach
+_OF_TURNS: Dict[str, FrozenSet[Entry]] = {
+    grammar.FAIR: frozenset({Entry.SKIPPED_TURN, Entry.TICK_SCHEDULED_IN_A_TICK}),
+    grammar.TWISTED: frozenset(),
+}
+
+#: all entries of how tasks take turns
+TURN_ENTRIES: FrozenSet[Entry] = frozenset({Entry.JOIN_AFTER_THE_LAST}).union(*_OF_TURNS.values())
+
+
+def entries_of_turns(turns: str, version: int) -> FrozenSet[Entry]:
+    """The entries of how tasks take turns that a Cooperator can reach whose turns go by this rule, in a script of this version."""
+    entries = _OF_TURNS[turns]
+    return entries if version >= grammar.TURN_RULES_SINCE else entries | {Entry.JOIN_AFTER_THE_LAST}

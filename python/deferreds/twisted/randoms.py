@@ -7,7 +7,7 @@ import random
 from functools import lru_cache
 from itertools import count, islice
 from pathlib import Path
-from typing import Any, Callable, Dict, Iterator, List, Optional, Tuple, Union
+from typing import Any, Callable, Dict, Iterator, List, Optional, Set, Tuple, Union
 
 from . import grammar
 from .grammar import Kind
@@ -63,6 +63,9 @@ _IN_COOPERATORS = ("cooperateIn", "unitsIn", "stopCooperator")
 
 #: what a script with declared Cooperators may begin with
 _BEGUN = ("cooperateIn", "cooperateIn", "cooperateIn")
+
+#: by which rule tasks take turns in a Cooperator of version 3; None: it doesn't say
+_TURNS = (None, grammar.FAIR, grammar.TWISTED, grammar.TWISTED)
 
 #: the bodies that a script may declare
 _BODIES = ("f", "g", "h")
@@ -154,11 +157,14 @@ class Scripts:
         root["events"] = self._repeated(events) if self._is_third and self._one_in(3) else events
         return json.dumps(root, separators=(",", ":"))
 
-    def some(self, number: int, version: Optional[int] = None) -> Iterator[Tuple[int, str]]:
-        """So many scripts, each with its own number: the first ones, or the first of a version that the level has."""
+    def some(self, number: int, version: Optional[int] = None, turns: Optional[str] = None) -> Iterator[Tuple[int, str]]:
+        """So many scripts, each with its own number: the first ones, or the first of a version that the level has.
+
+        `turns`: only scripts whose tasks, if they have any, all take turns by this rule.
+        """
         numbered = ((each, self.script(each)) for each in count())
         fitting = (pair for pair in numbered if version is None or f'"version":{version},' in pair[1])
-        return islice(fitting, number)
+        return islice((pair for pair in fitting if turns is None or turns_of(pair[1]) == {turns}), number)
 
     def _version(self, root: Dict[str, Any]) -> None:
         """The version of the script, and its pools where it has some."""
@@ -180,9 +186,12 @@ class Scripts:
             self._commented(root)
 
     def _cooperator(self) -> Dict[str, Any]:
-        """How many steps a tick has, and how long it is to the next."""
-        units, delay = self._random.randint(1, 4), self._random.randint(1, 3)
-        return self._commented({"units": units, "delay": delay})
+        """How many steps a tick has, how long it is to the next, and in most of version 3 by which rule tasks take turns."""
+        made: Dict[str, Any] = {"units": self._random.randint(1, 4), "delay": self._random.randint(1, 3)}
+        turns = self._random.choice(_TURNS) if self._is_third else None
+        if turns is not None:
+            made["turns"] = turns
+        return self._commented(made)
 
     def _commented(self, keyed: Dict[str, Any]) -> Dict[str, Any]:
         """An object, to which a comment is added in some scripts."""
@@ -400,6 +409,13 @@ class Scripts:
             # only a result shows what was caught
             statement[-1] = [["caught"], ["end", ["pass"]]]
         return statement
+
+
+def turns_of(script: str) -> Set[str]:
+    """By which rules tasks take turns in a script."""
+    root = json.loads(script)
+    settings = [root[key] for key in ("cooperator",) if key in root] + [each for _, each in root.get("cooperators", [])]
+    return {each.get("turns", grammar.FAIR) for each in settings}
 
 
 #: the first version of ends and statements

@@ -7,10 +7,12 @@ from pathlib import Path
 from typing import Iterable, Iterator, List, NamedTuple, Optional, Pattern, Tuple
 
 from ..checkout import TOP
+from .classes import BUILT_IN
 from .randoms import Scripts
 from .rows import read_rows, row_files
 from .rules import RULES
 from .running import Run, run
+from .script import read
 from .turning import Turning
 
 CASES = TOP / "python" / "data" / "cases.txt"
@@ -68,7 +70,7 @@ class Shown:
         self._script = script
         self._ran = ran
         self._journal = "".join(f"{line}\n" for line in lines)
-        self._turns = Turning().read(lines)
+        self._turns = Turning(read(script.encode(), list(BUILT_IN))).read(lines, set(ran.begins))
 
     def times(self, case: Case) -> int:
         """How often it shows a case."""

@@ -4,6 +4,7 @@ from __future__ import annotations
 
 import collections
 import contextlib
+import functools
 import sys
 import threading
 import warnings
@@ -39,10 +40,10 @@ from .classes import BUILT_IN, Classes
 from .instruments import install, locks, queues
 from .instruments.clock import run_due
 from .instruments.tasks import Cooperating, know
-from .profile import Entry
+from .profile import Entry, entries_of_turns
 from .rules import holding
 from .rules.cooperators import cooperator_class
-from .script import Script, read
+from .script import Script, Settings, read
 from .telling import Action, Line, Observer, Part, Record, Stopped, Thing, Time, lines_of, weight
 from .texts import Outcome, Text, compact, weight_of
 
@@ -51,6 +52,9 @@ Post = Tuple[int, int]
 Batches = Sequence[Sequence[Post]]
 
 _Failure: Callable[..., Failure] = Failure
+
+#: the first version in which an `end` of an inline body that fails throws its failure there
+ENDS_THROW_SINCE = 3
 
 RECURSION = 40_000
 STACK = 512 * 1024 * 1024
@@ -72,6 +76,8 @@ class Run:
         self.outcomes = outcomes
         self.status = status
         self.quirks: List[Tuple[int, Entry]] = []
+        #: the lines with which events begin, from 0
+        self.begins: List[int] = []
         #: how often what happened of which no line tells, by names that python/data/cases.txt has
         self.seen: Counter[str] = collections.Counter()
 
@@ -185,6 +191,14 @@ class OwnThread:
 State = Union[Outcome, Sequence[str]]
 
 
+def _is_met(wanted: Union[Outcome, str], state: State) -> bool:
+    """Whether a Deferred of this state is as it is expected to be."""
+    if not isinstance(state, Outcome):
+        return state[0] == wanted
+    # (by what both show: what a waiter has is the lock itself, which is shown as the text of its name)
+    return isinstance(wanted, Outcome) and state.text == wanted.text
+
+
 def _state_of(deferred: Deferred[Any], teller: Teller) -> State:
     """What has become of a Deferred, read off Twisted's own object."""
     if not deferred.called:
@@ -213,21 +227,22 @@ class Steps:
 
 
 class _Leaving:
-    """An inline body is left by an `end`, on what was the present value there."""
+    """An inline body is left by an `end`, whose result this makes."""
 
-    def __init__(self, end: List[Any], present: object, inside: Collection[str]) -> None:
-        self.end = end
-        self.present = present
-        #: `try` and `finally`, where it stands in the first statements of one
-        self.inside = frozenset(inside)
+    def __init__(self, result: Callable[[], object]) -> None:
+        self.result = result
 
 
 class _Left(Exception):
-    """An `end` in the second statements of a `finally`, which takes the place of how the first ended."""
+    """An `end` in the second statements of a `finally` takes the place of how the first ended, as a `return` there does."""
 
     def __init__(self, leaving: _Leaving) -> None:
         super().__init__()
         self.leaving = leaving
+
+
+class _NoneOfItsOwn(Exception):
+    """Is handled around an inline body, so that Python finds this, and not what the body's caller handles."""
 
 
 class _Inline:
@@ -236,14 +251,15 @@ class _Inline:
     def __init__(self, deferred: Deferred[Any]) -> None:
         self.deferred = deferred
         self.present: object = None
-        #: the exceptions that an `except` or a `finally` of the body handles, the innermost last
-        self.handled: List[BaseException] = []
         #: the words `try` and `finally` in whose first statements it is, the innermost last
         self.inside: List[str] = []
 
 
+#: the answer to an `await`: the exception that is thrown there, if there is one, and the value
+_Answer = Tuple[Optional[Exception], Any]
+
 #: statements of an inline body that run: they end past the last one, or leave the body
-_Running = Generator[Deferred[Any], Any, Optional[_Leaving]]
+_Running = Generator[Deferred[Any], _Answer, Optional[_Leaving]]
 
 
 class Player:
@@ -267,13 +283,9 @@ class Player:
             self.teller.classes.declare(name, parent)
         self.clock = task.Clock()
         #: how many steps a tick has of each Cooperator, by its name; None is that of the one that each script has
-        self.units: Dict[Optional[str], int] = {None: script.units}
-        self.cooperator = self._cooperator(None, script.delay)
-        know(self.teller, Cooperating(self.cooperator))
-        self.cooperators = {name: self._cooperator(name, delay) for name, (_, delay) in script.cooperators.items()}
-        self.units.update({name: units for name, (units, _) in script.cooperators.items()})
-        for name, made in self.cooperators.items():
-            know(self.teller, Cooperating(made, name))
+        self.units: Dict[Optional[str], int] = {}
+        self.cooperator = self._cooperator(None, script.cooperator)
+        self.cooperators = {name: self._cooperator(name, settings) for name, settings in script.cooperators.items()}
         self.deferreds: Dict[str, Deferred[Any]] = {}
         self.things: Dict[Tuple[str, str], Any] = {}
         self.reactor = OwnThread()
@@ -282,6 +294,8 @@ class Player:
         self.batches: Optional[Iterator[Sequence[Post]]] = None if batches is None else iter(batches)
         self.taken = [0] * len(script.callers)
         self._seen: Counter[str] = collections.Counter()
+        #: before which parts of lines events begin
+        self._begun: List[int] = []
 
     def run(self) -> Run:
         """Performs all events, and tells what came of them."""
@@ -304,14 +318,19 @@ class Player:
         places = [place for place, _ in lines]
         quirks = [(place, entry) for place, entry in teller.quirks if entry not in self._rules]
         run.quirks = [(bisect_left(places, place), entry) for place, entry in quirks]
+        run.begins = [bisect_left(places, place) for place in self._begun]
         return run
 
-    def _cooperator(self, name: Optional[str], delay: int) -> task.Cooperator:
-        """A Cooperator whose ticks are so far from each other."""
-        return cooperator_class(self._rules)(
+    def _cooperator(self, name: Optional[str], settings: Settings) -> task.Cooperator:
+        """Makes a Cooperator of the script: Twisted's own, but for the entries of `rules` that it can reach."""
+        of_turns = entries_of_turns(settings.turns, self.script.root["version"])
+        made = cooperator_class(self._rules, of_turns)(
             terminationPredicateFactory=lambda: self._terminator(name),
-            scheduler=lambda tick: self.clock.callLater(delay, tick),
+            scheduler=lambda tick: self.clock.callLater(settings.delay, tick),
         )
+        self.units[name] = settings.units
+        know(self.teller, Cooperating(made, name, of_turns=of_turns))
+        return made
 
     def _terminator(self, name: Optional[str]) -> Callable[[], bool]:
         left = [self.units[name]]
@@ -325,6 +344,7 @@ class Player:
     # events
 
     def _event(self, event: List[Any]) -> None:
+        self._begun.append(len(self.teller.parts))
         if event[0] == "drain":
             self.teller.tell("drain")
             self._posts(event[1])
@@ -341,8 +361,9 @@ class Player:
         state = _state_of(deferred, self.teller)
         shown: Part = state if isinstance(state, Outcome) else " ".join(state)
         record = self.teller.record(deferred)
-        if not self._is_met(expected, state):
-            self._end_unmet("unmet ", record, " ", shown)
+        wanted = self._wanted(expected)
+        if not _is_met(wanted, state):
+            self._end_unmet("unmet ", record, " ", shown, " expected ", wanted)
         self.teller.tell("expect ", record, " ", shown)
 
     def _end_unmet(self, *parts: Part) -> NoReturn:
@@ -351,15 +372,11 @@ class Player:
         self.teller.end()
         raise Unmet
 
-    def _is_met(self, expected: List[Any], state: "State") -> bool:
-        """Whether a Deferred of this state is as it is expected to be."""
-        if not isinstance(state, Outcome):
-            return str(expected[0]) == state[0]
+    def _wanted(self, expected: List[Any]) -> Union[Outcome, str]:
+        """What a script expects, as a line shows it."""
         if expected[0] not in ("ok", "fail"):
-            return False
-        value = self._value(expected[1]) if expected[0] == "ok" else self._failure(expected[1])
-        # (by what both show: what a waiter has is the lock itself, which is shown as the text of its name)
-        return state.text == self.teller.texts.outcome(value).text
+            return str(expected[0])
+        return self.teller.texts.outcome(self._value(expected[1]) if expected[0] == "ok" else self._failure(expected[1]))
 
     def _telling(self, happen: Callable[[], object]) -> None:
         """What fails here is logged, and the run goes on."""
@@ -745,16 +762,28 @@ class Player:
     def _inline_body(
         self, statements: List[Any], mine: List[Deferred[Any]]
     ) -> Generator[Deferred[Any], Any, Any]:
-        """The generator of an inline body; what its END gives is made outside of all its tries."""
+        """The generator of an inline body, in which what its caller handles isn't active.
+
+        The generators in it are never thrown at: what those around one handle isn't active in it then, until Python goes on in them.
+        """
         self._seen["inline"] += 1
-        body = _Inline(mine[0])
-        leaving = yield from self._statements(statements, body)
-        if leaving is None:
-            return None
-        with contextlib.ExitStack() as counting:
-            for word in leaving.inside:
-                counting.enter_context(self._counting(f"end fails in a {word}"))
-            return self._end(leaving.end, leaving.present, body.deferred)
+        running = self._statements(statements, _Inline(mine[0]))
+        answer: Optional[_Answer] = None
+        leaving: Optional[_Leaving] = None
+        try:
+            raise _NoneOfItsOwn
+        except _NoneOfItsOwn:
+            while True:
+                try:
+                    awaited = next(running) if answer is None else running.send(answer)
+                except StopIteration as over:
+                    leaving = over.value
+                    break
+                try:
+                    answer = (None, (yield awaited))
+                except Exception as error:
+                    answer = (error, None)
+        return None if leaving is None else leaving.result()
 
     def _statements(self, statements: List[Any], body: _Inline) -> _Running:
         for statement in statements:
@@ -765,30 +794,54 @@ class Player:
                 with self._counting("do raises"):
                     self._action(statement[1], body.deferred)
             elif word == "await":
-                with self._counting("await unbound"):
-                    awaited = self._deferred(statement[1], body.deferred)
-                body.present = yield awaited
-                self._go_on()
+                yield from self._await(statement[1], body)
             elif word == "try":
                 leaving = yield from self._try(statement, body)
             elif word == "finally":
                 leaving = yield from self._finally(statement, body)
             elif word == "raise":
-                self._need_active(body, word)
+                self._need_active(word)
                 raise
             elif word == "caught":
-                self._need_active(body, word)
+                self._need_active(word)
                 body.present = [_Failure(sys.exc_info()[1])]
             else:
-                return _Leaving(statement[1], body.present, body.inside)
+                leaving = self._leaving(statement[1], body)
             if leaving is not None:
                 return leaving
         return None
 
-    def _need_active(self, body: _Inline, word: str) -> None:
+    def _await(self, name: str, body: _Inline) -> Generator[Deferred[Any], _Answer, None]:
+        with self._counting("await unbound"):
+            awaited = self._deferred(name, body.deferred)
+        error, value = yield awaited
+        self._go_on()
+        if error is not None:
+            raise error
+        body.present = value
+
+    def _leaving(self, end: List[Any], body: _Inline) -> _Leaving:
+        """Leaves a body by an `end`, which fails here; up to version 2 it fails when the body has been left, outside of every `try`."""
+        make = functools.partial(self._end, end, body.present, body.deferred)
+        inside = frozenset(body.inside)
+        if self.script.root["version"] < ENDS_THROW_SINCE:
+            return _Leaving(lambda: self._made(make, "end fails past a", inside))
+        result = self._made(make, "end fails in a", inside)
+        return _Leaving(lambda: result)
+
+    def _made(self, make: Callable[[], object], failure: str, inside: Collection[str]) -> object:
+        """What an `end` returns. A failure is counted, for each word in whose first statements it stands."""
+        try:
+            return make()
+        except Exception:
+            self._seen.update(f"{failure} {word}" for word in inside)
+            raise
+
+    def _need_active(self, word: str) -> None:
         """Raises RuntimeError where the body handles no exception. Python would take one that a caller handles."""
-        self._seen[f"{word} {'active' if body.handled else 'none'}"] += 1
-        if not body.handled:
+        is_active = not isinstance(sys.exc_info()[1], _NoneOfItsOwn)
+        self._seen[f"{word} {'active' if is_active else 'none'}"] += 1
+        if not is_active:
             raise self.teller.classes.make("RuntimeError", "no active exception")
 
     def _first(self, statement: List[Any], body: _Inline) -> _Running:
@@ -799,30 +852,22 @@ class Player:
         finally:
             body.inside.pop()
 
+    def _second(self, statements: List[Any], body: _Inline) -> _Running:
+        """The second statements of a `try` or a `finally`, which begin on null."""
+        self._go_on()
+        body.present = None
+        return (yield from self._statements(statements, body))
+
     def _try(self, statement: List[Any], body: _Inline) -> _Running:
-        classes = tuple(self.teller.classes.get(name) for name in statement[2])
+        classes = tuple(self.teller.classes.named(name) for name in statement[2])
         try:
             return (yield from self._first(statement, body))
-        except classes as error:  # type: ignore[misc]
+        except classes:
             self._seen["try caught"] += 1
-            return (yield from self._second(statement[3], body, error))
+            return (yield from self._second(statement[3], body))
         except Exception:
             self._seen["try passed"] += 1
             raise
-
-    def _second(
-        self, statements: List[Any], body: _Inline, error: Optional[BaseException]
-    ) -> _Running:
-        """The second statements of a `try` or a `finally`, while this error is handled, if there is one."""
-        self._go_on()
-        body.present = None
-        if error is None:
-            return (yield from self._statements(statements, body))
-        body.handled.append(error)
-        try:
-            return (yield from self._statements(statements, body))
-        finally:
-            body.handled.pop()
 
     def _finally(self, statement: List[Any], body: _Inline) -> _Running:
         try:
@@ -832,23 +877,20 @@ class Player:
             return left.leaving
 
     def _in_finally(self, statement: List[Any], body: _Inline) -> _Running:
-        thrown: Optional[BaseException] = None
-        first: Optional[_Leaving] = None
+        how = "thrown"
         try:
-            first = yield from self._first(statement, body)
-            return first
-        except BaseException as error:
-            thrown = error
-            raise
+            leaving = yield from self._first(statement, body)
+            how = "ended" if leaving is None else "left"
+            return leaving
         finally:
             # the second statements run in no generator that is closed, and in no run that has stopped
-            if not isinstance(thrown, (GeneratorExit, Stopped)):
-                self._seen[f"finally {'thrown' if thrown else 'left' if first else 'ended'}"] += 1
+            if how != "thrown" or isinstance(sys.exc_info()[1], Exception):
+                self._seen[f"finally {how}"] += 1
                 present = body.present
                 with self._counting("finally fails"):
-                    leaving = yield from self._second(statement[2], body, thrown)
-                if leaving is not None:
-                    raise _Left(leaving)
+                    instead = yield from self._second(statement[2], body)
+                if instead is not None:
+                    raise _Left(instead)
                 body.present = present
 
     # threads

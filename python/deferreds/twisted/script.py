@@ -6,7 +6,7 @@ import json
 import math
 import re
 from itertools import accumulate
-from typing import AbstractSet, Any, Dict, List, Mapping, NoReturn, Optional, Sequence, Tuple
+from typing import AbstractSet, Any, Dict, List, Mapping, NamedTuple, NoReturn, Optional, Sequence, Tuple
 
 from ..language import LANGUAGE
 from ..repeats import written_out
@@ -52,22 +52,31 @@ class Refused(Exception):
         self.where = where
 
 
+class Settings(NamedTuple):
+    """Those of a Cooperator: how many steps a tick has, how long it is to the next, and by which rule tasks take turns."""
+
+    units: int
+    delay: int
+    turns: str
+
+
+def _settings(said: Mapping[str, Any]) -> Settings:
+    """What a Cooperator of a script says, with what stands where a key is left out."""
+    return Settings(said["units"], said["delay"], said.get("turns", grammar.FAIR))
+
+
 class Script:
     """A script that is accepted: its keys, with what stands where one is left out."""
 
     def __init__(self, root: Mapping[str, Any]) -> None:
-        cooperator = root.get("cooperator", LANGUAGE.usual)
         self.root = root
         #: its events, in which repeats are written out
         self.events: List[List[Any]] = written_out(root["events"])
         self.limit: int = root.get("limit", grammar.DEFAULT_LIMIT)
         self.classes: List[List[str]] = root.get("classes", [])
-        self.units: int = cooperator["units"]
-        self.delay: int = cooperator["delay"]
-        #: the Cooperators by name, each with how many steps a tick has, and how long it is to the next
-        self.cooperators: Dict[str, Tuple[int, int]] = {
-            name: (settings["units"], settings["delay"]) for name, settings in root.get("cooperators", [])
-        }
+        #: the Cooperator that has no name, and those by name
+        self.cooperator = _settings(root.get("cooperator", LANGUAGE.usual))
+        self.cooperators = {name: _settings(said) for name, said in root.get("cooperators", [])}
         #: the names of the pools; no line shows how many workers one has
         self.pools: List[str] = [name for name, _ in root.get("pools", [])]
         self.bodies: Dict[str, grammar.Body] = dict(root.get("bodies", []))
@@ -226,9 +235,11 @@ class _Shape:
         return self.found
 
     def _cooperator(self, value: Any) -> None:
-        self._keys(value, {"units", "delay"}, self._comment)
+        self._keys(value, grammar.COOPERATOR_NEEDS, grammar.COOPERATOR_KEYS[self._version])
         self._number(value["units"], grammar.UNITS)
         self._number(value["delay"], grammar.INTERVALS)
+        if value.get("turns", grammar.FAIR) not in (grammar.FAIR, grammar.TWISTED):
+            self._refuse(value)
 
     def _named_cooperator(self, value: Any) -> None:
         if len(self._array(value)) != 2:

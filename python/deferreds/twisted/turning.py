@@ -3,27 +3,46 @@
 from __future__ import annotations
 
 import collections
-from typing import Callable, Counter, Dict, List, Sequence
+from typing import AbstractSet, Callable, Collection, Counter, Dict, List, Sequence
+
+from . import grammar
+from .profile import Entry, entries_of_turns
+from .script import Script, Settings
+
+#: the first words of lines with which something begins that is due, and of those with which a task joins
+_DUE = frozenset({"tick", "tickin", "call", "timeout", "deliver", "post"})
+_JOINS = frozenset({"task", "taskin", "resumetask"})
 
 
 class _Turns:
     """The list of a Cooperator, and the place in it whose turn is next."""
 
-    def __init__(self, seen: Counter[str]) -> None:
-        self._seen = seen
+    def __init__(self, seen: Counter[str], units: int, of_turns: AbstractSet[Entry]) -> None:
+        """`of_turns`: the entries of how tasks take turns that it can reach."""
+        self.seen = seen
+        self.units = units
+        self.of_turns = of_turns
         self.tasks: List[str] = []
-        self._place = 0
-        self._has_left = False
+        self.place = 0
         self.in_tick = False
+        #: whether a task has left since the last step, so that no other was next
+        self._has_left = False
         self._has_joined = False
+
+    @property
+    def _stays_at_end(self) -> bool:
+        """Whether the place stays at the end of the list when a task leaves."""
+        return Entry.JOIN_AFTER_THE_LAST in self.of_turns
 
     def join(self, name: str) -> None:
         """A task joins, last."""
-        if self.tasks and self._place >= len(self.tasks):
-            self._seen["joined after" if self._has_left else "joined next"] += 1
+        if self._has_left and not self._stays_at_end:
+            self.seen["joined last"] += 1
+        elif self.tasks and self.place >= len(self.tasks):
+            self.seen["joined after" if self._has_left else "joined next"] += 1
         if self.in_tick:
             self._has_joined = True
-            self._seen["joined in a tick"] += 1
+            self.seen["joined in a tick"] += 1
         self.tasks.append(name)
 
     def leave(self, name: str) -> None:
@@ -32,25 +51,99 @@ class _Turns:
             return
         at = self.tasks.index(name)
         self.tasks.remove(name)
-        if at < self._place:
-            self._place -= 1
-            self._seen["left before"] += self._place < len(self.tasks)
-        elif at == self._place:
-            self._seen["next left"] += self._place < len(self.tasks)
-        self._has_left = self._has_left or self._place >= len(self.tasks)
-        self._seen["emptied after a join"] += self._has_joined and not self.tasks
+        if at < self.place:
+            self.place -= 1
+            self.seen["left before"] += self.place < len(self.tasks)
+        elif at == self.place:
+            self.seen["next left"] += self.place < len(self.tasks)
+        if self.place >= len(self.tasks):
+            self._has_left = True
+            self.place = self.place if self._stays_at_end else 0
+        self._has_left = self._has_left and bool(self.tasks)
+        self.seen["emptied after a join"] += self._has_joined and not self.tasks
 
     def step(self, name: str) -> None:
         """It is the turn of a task."""
-        if self._place >= len(self.tasks) > 1:
-            self._seen["round"] += 1
+        if self.place >= len(self.tasks) > 1:
+            self.seen["round"] += 1
         if name in self.tasks:
-            self._place = self.tasks.index(name) + 1
+            self.place = self.tasks.index(name) + 1
         self._has_left = False
 
     def begin_tick(self) -> None:
         """A tick begins."""
         self.in_tick, self._has_joined = True, False
+
+    def schedule(self, joined: bool) -> None:
+        """The next tick is scheduled, at the end of one if one goes on. `joined`: right after a task has joined."""
+        self.end_tick()
+
+    def end_tick(self) -> None:
+        """A tick has ended, if one went on."""
+        self.in_tick = False
+
+
+class _TwistedTurns(_Turns):
+    """The list of a Cooperator whose tasks take turns as Twisted has it: the place stays the same when a task leaves."""
+
+    def __init__(self, seen: Counter[str], units: int) -> None:
+        super().__init__(seen, units, frozenset())
+        #: how many steps the tick that goes on may have, and whether the next one is scheduled
+        self._room = 0
+        self._is_scheduled = False
+        #: whether no task took turns when the steps of a tick were used up
+        self._is_kept = False
+
+    def join(self, name: str) -> None:
+        """A task joins, last."""
+        if self.place == len(self.tasks) > 0:
+            self.seen["joined at the place" if self._has_left else "joined next, as in Twisted"] += 1
+        self.seen["joined before the place"] += self.place > len(self.tasks)
+        self.seen["joined where a tick was scheduled"] += self.in_tick and self._is_scheduled
+        self.tasks.append(name)
+
+    def leave(self, name: str) -> None:
+        """A task leaves, if it is there."""
+        if name not in self.tasks:
+            return
+        at = self.tasks.index(name)
+        self.tasks.remove(name)
+        self._has_left = True
+        self.seen["passed by"] += at < self.place <= len(self.tasks)
+        if not self.tasks:
+            self.seen["dropped in a tick"] += self.in_tick and self._is_scheduled
+            self._is_scheduled = False
+
+    def step(self, name: str) -> None:
+        """It is the turn of a task."""
+        self._room -= 1
+        if name not in self.tasks:
+            return
+        at = self.tasks.index(name)
+        self.seen["went on"] += self._is_kept and at == self.place
+        self.seen["round past the end"] += self.place > len(self.tasks)
+        self.place, self._has_left, self._is_kept = at + 1, False, False
+
+    def begin_tick(self) -> None:
+        """A tick begins."""
+        self.in_tick, self._is_scheduled, self._room = True, False, self.units
+
+    def schedule(self, joined: bool) -> None:
+        """The next tick is scheduled, at the end of one if one goes on. `joined`: right after a task has joined."""
+        if self.in_tick:
+            self.seen["scheduled by a join" if joined else "scheduled at the end"] += 1
+        if not joined:
+            self.end_tick()
+        self._is_scheduled = True
+
+    def end_tick(self) -> None:
+        """A tick has ended, if one went on."""
+        if self.in_tick and not self.tasks:
+            self._is_kept = self._room == 0
+            self.seen["emptied" if self._is_kept else "found nobody"] += 1
+            self.place = self.place if self._is_kept else 0
+        self.seen["ended where one was scheduled"] += self.in_tick and self._is_scheduled
+        self.in_tick = False
 
 
 class _Loop:
@@ -64,9 +157,11 @@ class _Loop:
 class Turning:
     """Reads the lines of a journal, and counts what is seen of turns."""
 
-    def __init__(self) -> None:
+    def __init__(self, script: Script) -> None:
         self.seen: Counter[str] = collections.Counter()
-        self._cooperators: Dict[str, _Turns] = collections.defaultdict(lambda: _Turns(self.seen))
+        version = script.root["version"]
+        settings = {"": script.cooperator, **script.cooperators}
+        self._cooperators = {name: self._turns(each, version) for name, each in settings.items()}
         #: by the name of a task, its Cooperator, and how often it is paused
         self._of: Dict[str, str] = {}
         self._pauses: Counter[str] = collections.Counter()
@@ -85,15 +180,27 @@ class Turning:
             "advance": self._advance,
             "loop": self._begin_loop,
             "later": self._later,
+            "units": lambda rest: self._set_units("", rest[0]),
+            "unitsin": lambda rest: self._set_units(*rest),
         }
+        #: the first word of the line before
+        self._before = ""
 
-    def read(self, lines: Sequence[str]) -> Counter[str]:
-        """Reads all lines, and gives what was seen."""
-        for line in lines:
+    def _turns(self, settings: Settings, version: int) -> _Turns:
+        if settings.turns == grammar.TWISTED:
+            return _TwistedTurns(self.seen, settings.units)
+        return _Turns(self.seen, settings.units, entries_of_turns(settings.turns, version))
+
+    def read(self, lines: Sequence[str], begins: Collection[int]) -> Counter[str]:
+        """Reads all lines, and gives what was seen. `begins`: the lines with which events begin."""
+        for place, line in enumerate(lines):
             word, *rest = line.split(" ")
+            if place in begins or word in _DUE or (word == "turn" and self._before != "loop"):
+                self._end_ticks()
             change = self._changes.get(word)
             if change is not None:
                 change(rest)
+            self._before = word
         return self.seen
 
     def _make(self, rest: Sequence[str]) -> None:
@@ -122,14 +229,15 @@ class Turning:
 
     def _end_ticks(self) -> None:
         for turns in self._cooperators.values():
-            turns.in_tick = False
+            turns.end_tick()
 
     def _tick(self, rest: Sequence[str]) -> None:
-        self._end_ticks()
         self._cooperators[rest[0] if rest else ""].begin_tick()
 
+    def _set_units(self, name: str, units: str) -> None:
+        self._cooperators[name].units = int(units)
+
     def _advance(self, rest: Sequence[str]) -> None:
-        self._end_ticks()
         self._now = int(rest[0])
 
     def _begin_loop(self, rest: Sequence[str]) -> None:
@@ -137,8 +245,7 @@ class Turning:
 
     def _later(self, rest: Sequence[str]) -> None:
         if rest[0] in ("tick", "tickin"):
-            # at the end of a tick the next one is scheduled, unless that was done in it
-            self._cooperators[rest[1] if rest[0] == "tickin" else ""].in_tick = False
+            self._cooperators[rest[1] if rest[0] == "tickin" else ""].schedule(self._before in _JOINS)
         loop = self._loops.get(rest[1]) if rest[0] == "loop" else None
         if loop is None:
             return

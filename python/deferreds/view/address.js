@@ -51,7 +51,7 @@ function follow() {
 }
 function arrive(row, top) {
   const line = row !== null && isHere(row) ? row : null;
-  if (line !== null && !isRowShown(line) && slots[slotAt(line)].kind === LINE) reveal(line);
+  if (line !== null && !isRowShown(line) && isLine(slotAt(line))) reveal(line);
   makeCurrent(line);
   foundAt(line);
   if (top !== null && isHere(top)) return goToTop(top);

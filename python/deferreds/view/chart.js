@@ -46,7 +46,7 @@ function grouped(attributes, shapes) {
 
 // the lanes beside the rows that are shown at these places; `at` says which slots these are, and where each slot stands
 function laneBars(lane, at, top, bottom) {
-  const spans = lane.one.spans, starts = lane.starts, found = [], last = at.slots[at.slots.length - 1];
+  const spans = deferredOf(lane.number).spans, starts = spans.filter((_, place) => place % 2 === 0).map(slotAt), found = [], last = at.slots[at.slots.length - 1];
   const quiet = lane.quiet < total ? heightOf(lane.quiet) : Infinity, end = lane.bottom < total ? heightOf(lane.bottom) : heightOf(total) - 2;
   for (let place = Math.max(0, atMost(starts, at.slots[0]) - 1); place < starts.length && starts[place] <= last; place += 1) {
     const from = Math.max(top - OVER, spans[2 * place] >= first ? heightOf(starts[place]) : 0);
@@ -59,8 +59,8 @@ function laneBars(lane, at, top, bottom) {
 }
 function laneBar(lane, from, to, look, isQuiet) {
   const state = STATES[look >> 1], paused = look % 2 === 1;
-  const group = grouped({ class: isQuiet ? "lane quiet" : "lane", "data-d": lane.one.number }, barOf(lane.x, from, to, state, paused));
-  group.append(drawn("title", {}, labelOf(lane.one.number) + ": " + (paused ? "paused, " : "") + SAYS[state]));
+  const group = grouped({ class: isQuiet ? "lane quiet" : "lane", "data-d": lane.number }, barOf(lane.x, from, to, state, paused));
+  group.append(drawn("title", {}, labelOf(lane.number) + ": " + (paused ? "paused, " : "") + SAYS[state]));
   return group;
 }
 function rowArrows(row, y) {
@@ -77,7 +77,7 @@ function rowArrows(row, y) {
 function rowMarks(row, y) {
   const word = wordOf(row), lane = word === "new" || word === "add" ? lanes.get(Number(partsOf(row).words[1].slice(1))) : null;
   if (!lane) return [];
-  const number = lane.one.number;
+  const number = lane.number;
   if (word === "add") return [drawn("path", { class: "tick lane", "data-d": number, d: "M" + (lane.x - 4) + " " + y + "h8" })];
   const room = roomOf(lane), label = room >= String(number).length + 5 ? clipped(labelOf(number), room) : "#" + number;
   return [grouped({ class: "lane", "data-d": number, "data-x": lane.x }, [
@@ -86,23 +86,23 @@ function rowMarks(row, y) {
 }
 function lanesPicture(at) {
   const height = at.slots.length * SLOT, top = at.from * SLOT, ground = [], shapes = [], bars = [], marks = [], free = at.slots.map(() => true);
-  at.slots.forEach((number, place) => {
-    const slot = slots[number], y = place * SLOT;
-    if (slot.kind === HEAD) ground.push(path("rule", "M0 " + (y + 0.5) + "H" + fullWidth));
-    if (slot.kind !== LINE) return;
-    const word = wordOf(slot.row);
+  at.slots.forEach((slot, place) => {
+    const row = slots.rows[slot], y = place * SLOT;
+    if (slots.kinds[slot] === HEAD) ground.push(path("rule", "M0 " + (y + 0.5) + "H" + fullWidth));
+    if (!isLine(slot)) return;
+    const word = wordOf(row);
     if (word === "advance") ground.push(drawn("rect", { class: "band", x: 0, y: y, width: fullWidth, height: SLOT }));
-    free[place] = !arrowsOf.has(slot.row) && word !== "new" && word !== "add";
-    shapes.push(...rowArrows(slot.row, y + SLOT / 2));
-    marks.push(...rowMarks(slot.row, y + SLOT / 2));
+    free[place] = !arrowsOf.has(row) && word !== "new" && word !== "add";
+    shapes.push(...rowArrows(row, y + SLOT / 2));
+    marks.push(...rowMarks(row, y + SLOT / 2));
   });
   const there = near(laneBuckets, at.slots[0], at.slots[at.slots.length - 1]);
   there.forEach(lane => {
-    if (chosen === lane.one.number) ground.push(columnOf(lane, top, height));
+    if (chosen === lane.number) ground.push(columnOf(lane, top, height));
     bars.push(...laneBars(lane, at, top, top + height));
     const y = lane.bottom < total ? heightOf(lane.bottom) - top : heightOf(total) - 9 - top;
     if (y < 0 || y > height || (lane.bottom < total && !isShown(lane.bottom))) return;
-    marks.push(grouped({ class: "lane", "data-d": lane.one.number }, capOf(lane.x, y, lane.one.end)));
+    marks.push(grouped({ class: "lane", "data-d": lane.number }, capOf(lane.x, y, lane.end)));
     free[Math.min(free.length - 1, Math.floor(y / SLOT))] = false;
   });
   const picture = drawn("svg", { "aria-hidden": "true", width: fullWidth, height: height });
@@ -119,7 +119,7 @@ function laneNumbers(at, there, free) {
   if (place < 0) return found;
   there.forEach(lane => {
     if (lane.top >= at.slots[0] || lane.bottom <= at.slots[place]) return;
-    found.push(drawn("text", { class: "dim lane", "data-d": lane.one.number, x: lane.x + 8, y: place * SLOT + 14 }, "#" + lane.one.number));
+    found.push(drawn("text", { class: "dim lane", "data-d": lane.number, x: lane.x + 8, y: place * SLOT + 14 }, "#" + lane.number));
   });
   return found;
 }
@@ -128,11 +128,11 @@ function laneNumbers(at, there, free) {
 function rulerPicture(at) {
   const height = at.slots.length * SLOT, top = at.from * SLOT, picture = drawn("svg", { width: RULER, height: height });
   let isFirst = true;
-  at.slots.forEach((number, place) => {
-    const slot = slots[number], advances = slot.kind === LINE && wordOf(slot.row) === "advance";
-    if (slot.kind !== LINE) return;
+  at.slots.forEach((slot, place) => {
+    if (!isLine(slot)) return;
+    const advances = wordOf(slots.rows[slot]) === "advance";
     if (advances) picture.append(drawn("rect", { class: "band", x: 0, y: place * SLOT, width: RULER, height: SLOT }));
-    if (advances || isFirst) picture.append(timeText(timeOf(slot.row), place * SLOT + 14));
+    if (advances || isFirst) picture.append(timeText(timeOf(slots.rows[slot]), place * SLOT + 14));
     isFirst = false;
   });
   near(bracketBuckets, at.slots[0], at.slots[at.slots.length - 1]).forEach(one => picture.append(...bracketOf(one, top, height)));

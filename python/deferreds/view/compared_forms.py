@@ -6,7 +6,7 @@ from itertools import groupby
 from typing import Iterator, List, Optional, Tuple, Union
 
 from .compared import Aligned, Compared, Differing, Side
-from .document import asset, policy_hash
+from .document import asset, hashes, page_file
 from .lines import WORDS
 from .markup import isolated
 from .records import Record, Row, ended
@@ -34,18 +34,9 @@ class ComparedPage:
     def html(self) -> Html:
         """The whole page."""
         style = asset("style.css")
-        policy = f"default-src 'none'; style-src '{policy_hash(style)}'; base-uri 'none'; form-action 'none'"
-        names = [escaped(side.run.title) for side in self._sides]
-        return joined(
-            [
-                Html('<!doctype html><html lang=en><head><meta charset=utf-8><meta name=viewport content="width=device-width">'),
-                Html(f'<meta http-equiv=Content-Security-Policy content="{policy}">'),
-                Html(f"<title>{names[0]} | {names[1]}</title><style>{style}</style></head><body class=compared><main>"),
-                Html(f"<h1><bdi>{names[0]}</bdi> and <bdi>{names[1]}</bdi></h1>"),
-                *self.pieces(),
-                Html("</main></body></html>\n"),
-            ]
-        )
+        first, second = (escaped(side.run.title) for side in self._sides)
+        begin = Html(f"<body class=compared><main><h1><bdi>{first}</bdi> and <bdi>{second}</bdi></h1>")
+        return page_file(Html(f"{first} | {second}"), f"style-src {hashes(style)}; base-uri 'none'", style, [begin, *self.pieces(), Html("</main>")])
 
     def pieces(self) -> Iterator[Html]:
         """What differs: the verdict, the outcomes, the lines."""

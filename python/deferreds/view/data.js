@@ -2,18 +2,27 @@
 const data = JSON.parse(document.getElementById("data").textContent);
 const ENDS = ["ok", "fail", "waiting", "paused", "unfired"], STATES = ["unfired", "ok", "fail", "wait", "run"];
 const first = data.first, stop = first + data.kinds.length;
-const lines = data.kinds.length ? data.lines.split("\n") : [];
+const lines = data.lines.split("\n");
 
-// the values of some rows, by row
-function sparse(column) {
-  const found = new Map();
-  let row = 0;
-  column[0].forEach((step, place) => { row += step; found.set(row, column[1][place]); });
-  return found;
+// the values of some rows of the page, by row
+class Sparse {
+  constructor(column) {
+    this.values = column[1];
+    // (of each row the place of its value, from 1)
+    this.places = new Int32Array(stop - first);
+    rowsOfColumn(column).forEach((row, place) => { this.places[row - first] = place + 1; });
+  }
+  has(row) { return this.places[row - first] > 0; }
+  get(row) { return this.values[this.places[row - first] - 1]; }
 }
-const causes = sparse(data.why), arrowsOf = sparse(data.arrows), heads = sparse(data.events), tails = sparse(data.tails);
-const wholes = sparse(data.wholes), eventPlaces = sparse(data.at), rowPlaces = sparse(data.near), same = sparse(data.same);
-const timeRows = Array.from(sparse(data.times).keys()), times = data.times[1];
+function rowsOfColumn(column) {
+  const rows = Int32Array.from(column[0]);
+  for (let place = 1; place < rows.length; place += 1) rows[place] += rows[place - 1];
+  return rows;
+}
+const causes = new Sparse(data.why), arrowsOf = new Sparse(data.arrows), heads = new Sparse(data.events), tails = new Sparse(data.tails);
+const wholes = new Sparse(data.wholes), eventPlaces = new Sparse(data.at), rowPlaces = new Sparse(data.near), same = new Sparse(data.same);
+const timeRows = rowsOfColumn(data.times), times = data.times[1];
 
 // how many of the numbers, which come in order, are at most this one
 function atMost(numbers, most) {
@@ -40,16 +49,25 @@ function names(row, number) {
   return named === number || (Array.isArray(named) && named.includes(number));
 }
 
-const deferreds = new Map(data.deferreds.map(one => [one[0], {
-  number: one[0], names: one[1], name: one[1].split(", ", 1)[0], end: one[2], value: one[3], waits: one[4],
-  made: one[5], last: one[6], fired: one[7], by: one[8],
-  unfired: one[9][0], waited: one[9][1], paused: one[9][2], sides: one[9][3], pairs: one[9][4], spans: one[10], written: one[11], steps: null
-}]));
-
-// the steps of a Deferred
-function stepsOf(one) {
-  if (one.steps === null) one.steps = readSteps(one.written ? one.written.split(" ") : []);
-  return one.steps;
+// the Deferreds: where each stands in the columns, by number. What most of them are never asked for is a text, which is read if it is
+const deferreds = new Map(), columns = data.deferreds, allNames = columns.names.split("\n"), written = columns.written.split("\n"), read = new Map();
+columns.numbers.forEach((number, place) => { deferreds.set(number, place); });
+function endOf(number) { return deferreds.has(number) ? columns.ends[deferreds.get(number)] : -1; }
+function nameOf(number) {
+  const names = deferreds.has(number) ? allNames[deferreds.get(number)] : "", end = names.indexOf(", ");
+  return end < 0 ? names : names.slice(0, end);
+}
+function deferredOf(number) {
+  let one = read.get(number);
+  if (one === undefined) read.set(number, one = readDeferred(number, deferreds.get(number)));
+  return one;
+}
+function readDeferred(number, place) {
+  const [value, waits, fired, by, spent, spans, steps] = JSON.parse(written[place]), [unfired, waited, paused, sides, pairs] = spent;
+  return {
+    number, names: allNames[place], end: columns.ends[place], made: columns.made[place], last: columns.last[place],
+    value, waits, fired, by, unfired, waited, paused, sides, pairs, spans, steps: readSteps(steps ? steps.split(" ") : [])
+  };
 }
 function readSteps(words) {
   const open = [[]];

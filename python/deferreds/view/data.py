@@ -29,7 +29,7 @@ row is written as its distance from the one before.
 | `foreign` | the rows that tell of Twisted's own doing |
 | `folds` | of each fold: its kind, the row that stays, the first and the last that it hides, how often turns come |
 | `brackets` | of each bracket: its kind, the row in which it begins, that in which it ends or -1 |
-| `deferreds` | for each Deferred of these rows, an array of those in `FIELDS` |
+| `deferreds` | the Deferreds of these rows, in columns: `numbers`; `ends`, how they ended, as places in `Ended`; `made` and `last`, the rows that name them first and last; `names`, and `written`: an array of those in `FIELDS`, as JSON. The last two are texts with a line for each |
 | `stacks` | of some Deferreds, by their numbers: the places of the functions in which it was made, innermost first, part by part |
 | `calls` | of some Deferreds, by their numbers: what the inline body was called with |
 | `tables` | the numbers of the Deferreds in each table of outcomes, by the id of what holds it |
@@ -47,7 +47,7 @@ from typing import Any, Dict, Iterable, List, Optional, Sequence, Tuple
 
 from .axis import Axis
 from .brackets import brackets_of
-from .data_deferreds import FIELDS, deferred_of
+from .data_deferreds import columns_of
 from .data_rows import RowData
 from .events import Events
 from .folding import Folding, same_lines
@@ -60,7 +60,7 @@ from .run import Run
 from .texts import Html, clipped, shortened, visible
 from .units import seconds_of, time_of
 
-__all__ = ["Data", "FIELDS"]
+__all__ = ["Data"]
 
 _MOST_EVENT = 80
 _ARROWS, _BRACKETS = list(ArrowKind), list(BracketKind)
@@ -169,7 +169,7 @@ class Data:
 
     def form(self) -> Dict[str, Any]:
         """The object."""
-        run, rows = self._run, self._rows
+        run, rows, told = self._run, self._rows, list(self._told())
         return {
             "first": rows.start,
             "total": len(run.fold.rows),
@@ -180,9 +180,9 @@ class Data:
             "foreign": foreign_rows(run, rows),
             "folds": [tuple(one) for one in Folding(run.fold.rows, rows, self._same).folds()],
             "brackets": self._brackets(),
-            "deferreds": [deferred_of(run, record, self._phrases.form) for record in self._told()],
-            "stacks": {record.number: self._stack(record) for record in self._told() if run.places.stack_of(record.names)},
-            "calls": {record.number: visible(call) for record in self._told() for call in [run.places.call_of(record.names)] if call},
+            "deferreds": columns_of(run, told, self._phrases.form),
+            "stacks": {record.number: self._stack(record) for record in told if run.places.stack_of(record.names)},
+            "calls": {record.number: visible(call) for record in told for call in [run.places.call_of(record.names)] if call},
             "tables": self._outcomes.tables,
             "axis": self._axis.form,
             "copied": list(self._copied),

@@ -30,7 +30,6 @@ SCRIPTS = (
     "address.js",
     "keys.js",
 )
-_HEAD = '<!doctype html><html lang=en><head><meta charset=utf-8><meta name=viewport content="width=device-width">'
 
 
 def asset(name: str) -> str:
@@ -49,22 +48,28 @@ def script_of(names: Sequence[str] = SCRIPTS) -> str:
     return f'(function () {{\n"use strict";\n{_short(*map(asset, names))}\n}})();\n'
 
 
-def policy_hash(text: str) -> str:
-    """How a content security policy names a style or a script."""
-    digest = hashlib.sha256(text.encode("utf-8")).digest()
-    return f"sha256-{base64.b64encode(digest).decode('ascii')}"
+def hashes(*texts: str) -> str:
+    """How a content security policy names styles or scripts."""
+    digests = (hashlib.sha256(text.encode("utf-8")).digest() for text in texts)
+    return " ".join(f"'sha256-{base64.b64encode(digest).decode('ascii')}'" for digest in digests)
+
+
+def page_file(title: Html, allowed: str, style: str, body: Iterable[Html], head: str = "") -> Html:
+    """A page as a file: its title, what its policy allows beside nothing, its style, and its body with the tag that begins it."""
+    return joined(
+        [
+            Html('<!doctype html><html lang=en><head><meta charset=utf-8><meta name=viewport content="width=device-width">'),
+            Html(f"<meta http-equiv=Content-Security-Policy content=\"default-src 'none'; {allowed}; form-action 'none'\">"),
+            Html(f"{head}<style>{style}</style><title>{title}</title></head>"),
+            *body,
+            Html("</body></html>\n"),
+        ]
+    )
 
 
 def written(title: str, pieces: Iterable[Html], in_frame: bool = False) -> Html:
     """The page of a run; in a frame of another page its links lead to places within the frame."""
     style, script = asset("style.css"), script_of()
     bases, base = (FRAME_BASE, f"<base href={FRAME}>") if in_frame else ("'none'", "")
-    policy = f"default-src 'none'; style-src '{policy_hash(style)}'; script-src '{policy_hash(script)}'; base-uri {bases}; form-action 'none'"
-    return joined(
-        [
-            Html(f'{_HEAD}<meta http-equiv=Content-Security-Policy content="{policy}">{base}<style>{style}</style>'),
-            Html(f"<title>{escaped(title)}</title></head><body>"),
-            *pieces,
-            Html(f"<script>{script}</script></body></html>\n"),
-        ]
-    )
+    allowed = f"style-src {hashes(style)}; script-src {hashes(script)}; base-uri {bases}"
+    return page_file(escaped(title), allowed, style, [Html("<body>"), *pieces, Html(f"<script>{script}</script>")], base)

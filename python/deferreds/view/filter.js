@@ -2,10 +2,10 @@
 const sieve = document.getElementById("sieve"), off = { kind: new Set(), outcome: new Set() };
 let boxes = [], members = null;
 
-function endOf(number) { return deferreds.has(number) ? ENDS[deferreds.get(number).end] : ""; }
+function outcomeOf(number) { return ENDS[endOf(number)] || ""; }
 function passes(row) {
   if (off.kind.has(wordOf(row))) return false;
-  return !off.outcome.size || namesOf(row).some(number => !off.outcome.has(endOf(number)));
+  return !off.outcome.size || namesOf(row).some(number => !off.outcome.has(outcomeOf(number)));
 }
 // how many there are of each
 function counted(values) {
@@ -13,7 +13,7 @@ function counted(values) {
   values.forEach(value => counts.set(value, (counts.get(value) || 0) + 1));
   return counts;
 }
-function lineRows() { return slots.filter(slot => slot.kind === LINE).map(slot => slot.row); }
+function lineRows() { return Array.from(slots.rows.subarray(0, total).filter((_, slot) => isLine(slot))); }
 function group(name, title, counts, says) {
   const part = made("div", "group");
   part.append(made("b", "", title), " ", button("all", "act", () => checkAll(name, true)), " ", button("none", "act", () => checkAll(name, false)));
@@ -50,7 +50,7 @@ function strain(hidden) {
 }
 function tellSieve() {
   const every = lineRows(), hidden = sieves.kind ? every.filter(row => !passes(row)).length : 0;
-  const gone = Array.from(deferreds.keys()).filter(number => off.outcome.has(endOf(number))).length;
+  const gone = Array.from(deferreds.keys()).filter(number => off.outcome.has(outcomeOf(number))).length;
   const says = ": it hides " + hidden + " of " + several(every.length, "line", "lines") + ", " + gone + " of " + several(deferreds.size, "outcome", "outcomes");
   sieve.firstElementChild.textContent = "Filter by kind of line and by outcome" + (hidden || gone ? says : "");
 }
@@ -58,7 +58,7 @@ function tellSieve() {
 function showDeferreds() {
   all(".ends tr[data-d], #time tr[data-d]").forEach(row => {
     const number = Number(row.dataset.d), apart = members && !members.has(number) && row.closest("#time");
-    row.hidden = Boolean(apart) || off.outcome.has(endOf(number));
+    row.hidden = Boolean(apart) || off.outcome.has(outcomeOf(number));
   });
 }
 function unstrain() { if (sieves.kind) strain({ kind: [], outcome: [] }); }
@@ -66,6 +66,6 @@ function unstrain() { if (sieves.kind) strain({ kind: [], outcome: [] }); }
 sieve.addEventListener("toggle", () => {
   if (boxes.length || !sieve.open) return;
   group("kind", "Kinds of lines", counted(lineRows().map(wordOf)), word => word || "not known");
-  group("outcome", "Outcomes of the Deferreds that a line names", counted(Array.from(deferreds.keys(), endOf)), end => SIGNS[ENDS.indexOf(end)] + " " + end);
+  group("outcome", "Outcomes of the Deferreds that a line names", counted(Array.from(deferreds.keys(), outcomeOf)), end => SIGNS[ENDS.indexOf(end)] + " " + end);
   boxes.forEach(box => { box.checked = !off[box.name].has(box.value); });
 });

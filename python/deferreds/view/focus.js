@@ -1,11 +1,11 @@
 // One Deferred is followed: all but its rows, lane and arrows fade.
 const note = document.getElementById("focus");
 
-function awaitedBy(number) { return new Set((deferreds.has(number) ? stepsOf(deferreds.get(number)) : []).filter(step => "wck".includes(step.does)).map(step => step.other)); }
+function awaitedBy(number) { return new Set(stepsFor(number).filter(step => "wck".includes(step.does)).map(step => step.other)); }
 // those that the Deferred awaits, and those that await it
 function relatedTo(number) {
   const found = awaitedBy(number);
-  deferreds.forEach(one => { if (/[wck][\d,-]*#/.test(one.written) && awaitedBy(one.number).has(number)) found.add(one.number); });
+  deferreds.forEach((place, one) => { if (/[wck][\d,-]*#/.test(written[place]) && awaitedBy(one).has(number)) found.add(one); });
   found.delete(number);
   return found;
 }

@@ -8,7 +8,7 @@ let closed = new Uint8Array(stop - first);
 (function makeFolds() {
   data.folds.forEach(one => {
     const fold = { kind: one[0], row: one[1], first: one[2], last: one[3], times: one[4], shut: data.shut, lines: 0 };
-    for (let slot = slotAt(fold.first); slot <= slotAt(fold.last); slot += 1) if (slots[slot].kind === LINE) fold.lines += 1;
+    for (let slot = slotAt(fold.first); slot <= slotAt(fold.last); slot += 1) if (isLine(slot)) fold.lines += 1;
     folds.push(fold);
     foldsOfRow.set(fold.row, [...(foldsOfRow.get(fold.row) || []), fold]);
   });
@@ -41,7 +41,7 @@ function layFolds(kept) {
 }
 function tellFolds() {
   if (!folds.length && !foreign.size) return;
-  const hidden = slots.filter(slot => slot.kind === LINE && closed[slot.row - first]).length, shut = folds.filter(fold => fold.shut).length;
+  const hidden = lineRows().filter(row => closed[row - first]).length, shut = folds.filter(fold => fold.shut).length;
   foldNote.hidden = false;
   foldNote.replaceChildren(hidden ? several(hidden, "line is", "lines are") + " folded away, in " + several(shut, "fold", "folds") + ". " : "");
   if (hidden) foldNote.append(button("open all", "act", () => shutAll(false)), " ");

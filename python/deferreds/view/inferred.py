@@ -5,6 +5,7 @@ What each says is exact, unless it says otherwise; that it is the cause is a gue
 
 from __future__ import annotations
 
+from collections import Counter
 from typing import Callable, Dict, List, Optional, Sequence, Set, Tuple
 
 from .after_cancel import WentOn, went_on
@@ -217,6 +218,15 @@ class Inferred:
         site = self.sites.of.get(record.number)
         return [(self._others(site.among),)] if site is not None and record.number in self.sites.odd else []
 
+    def others_fired(self, record: Record) -> List[Phrase]:
+        """Which lines of the program fired the others of the line that made an odd Deferred: what should have fired that one may stand there."""
+        if record.number not in self.sites.odd:
+            return []
+        others = [one for one in self.sites.of[record.number].among.records if one.fired is not None and one.cancelled is None]
+        places = Counter(place for one in others for place in [self._row_places.of(self._fold.rows[one.fired or 0])] if place is not None)
+        said = [part for place, count in places.most_common(_MOST_HELD) for part in words(", ", OfPlace(place), f" ({count})")]
+        return [words("the others were fired at ", *said[1:])] if said else []
+
     def _others(self, site: Site) -> str:
         median = said_of(site.median, self._tick)
         return f"{len(site.records)} were made there: {site.said}; half were unfired for at most {median}"
@@ -233,8 +243,8 @@ class Inferred:
     def _odd(self, record: Record, site: Site) -> Finding:
         said = words(OfDeferred(record.number), f" was unfired for {said_of(self.sites.unfired(record), self._tick)}, and then cancelled")
         cancelled = words(*self.cancelled_in(record.cancelled or 0), *in_whom(self._fold.said_by(self._fold.rows[record.cancelled or 0].actor)))
-        guess = words("a guess, since it is odd among these: ", self._others(site.among))
-        details = details_of(self.made_at(record), [guess], self._waiters(record), self.again(record), [cancelled])
+        guess = words("a guess, since ", self._others(site.among))
+        details = details_of(self.made_at(record), [guess], self.others_fired(record), self._waiters(record), self.again(record), [cancelled])
         return Finding(Severity.LIKELY, Kind.ODD, said, details, record.row)
 
     def cancelled_in(self, row: int) -> Phrase:
@@ -322,7 +332,12 @@ class Inferred:
         found = getters(self._fold, self._bodies, queue)
         if len(found) > _MOST_HELD:
             return []
-        return [words(*self.body(body), *self._made(body), f" got {several(count, 'value', 'values')} of it") for body, count in found.items()]
+        return [words(*self.body(body), *self._made(body), f" got {several(len(got), 'value', 'values')} of it", *self._stopped(body, got[-1])) for body, got in found.items()]
+
+    def _stopped(self, body: int, last: str) -> Phrase:
+        """After which value of a queue a body ended, if it has: a worker may end by a value."""
+        fired = self._fold.records[body].fired
+        return words(", and ended in ", OfLine(fired), ", after the last one: ", OfScript(last)) if fired is not None else words()
 
     def not_returned(self) -> List[Finding]:
         """The Deferreds that callbacks didn't return, a row for each line of the program."""

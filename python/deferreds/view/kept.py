@@ -41,13 +41,13 @@ def pool_of(fold: Fold, bodies: Bodies, queue: Queue) -> Optional[Pool]:
     return Pool(lost, back) if len(back) >= max(_FEWEST_BACK, len(lost)) else None
 
 
-def getters(fold: Fold, bodies: Bodies, queue: Queue) -> Dict[int, int]:
-    """How many values of a queue each body got, the first one first."""
-    found: Dict[int, int] = {}
+def getters(fold: Fold, bodies: Bodies, queue: Queue) -> Dict[int, List[str]]:
+    """Which values of a queue each body got, the first one first."""
+    found: Dict[int, List[str]] = {}
     for record in _fired(fold, queue):
         body = bodies.acting.get(record.row)
         if body is not None:
-            found[body] = found.get(body, 0) + 1
+            found.setdefault(body, []).append(_value(fold, record) or "")
     return found
 
 

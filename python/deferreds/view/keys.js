@@ -14,9 +14,9 @@ function step(by) {
   let at = Math.max(0, Math.min(shownSlots.length - 1, isThere || Math.abs(by) > 1 ? from + by : from));
   // (the first and the last slot may be no lines)
   const on = at === shownSlots.length - 1 ? -1 : at === 0 ? 1 : way;
-  while (at >= 0 && at < shownSlots.length && slots[shownSlots[at]].kind !== LINE) at += on;
+  while (at >= 0 && at < shownSlots.length && !isLine(shownSlots[at])) at += on;
   if (at < 0 || at >= shownSlots.length) return;
-  makeCurrent(slots[shownSlots[at]].row);
+  makeCurrent(slots.rows[shownSlots[at]]);
   bringToSight(current, false);
   if (told !== null && told.key !== "r" + current) showRow(current);
   keep();

@@ -5,49 +5,61 @@ const OWN = 10, STAY = 24, MOST_COLUMNS = 100, LEFT = 30, LEAST_WIDTH = 440;
 const NUMBER = 46, RULER = 58, MOST_BESIDE = 5, LONGEST = 150;
 
 // a slot is a line, the head of an event, how often a line comes again, or the end; with its row, and how many slots or lines more
-const slots = [], slotOf = new Int32Array(stop - first);
-(function makeSlots() {
-  let top = null;
-  for (let row = first; row < stop;) {
-    if (heads.has(row) || tails.has(row)) top = null;
-    if (heads.has(row)) slots.push(top = { kind: HEAD, row: row, more: 0 });
-    const count = same.get(row) || 1;
-    for (let at = row; at < row + count; at += 1) slotOf[at - first] = slots.length + (at > row ? 1 : 0);
-    slots.push({ kind: LINE, row: row, more: 0 });
-    if (count > 1) slots.push({ kind: SAME, row: row, more: count - 1 });
-    if (top) top.more += count > 1 ? 2 : 1;
-    row += count;
+const slots = { kinds: new Uint8Array(2 * (stop - first) + 1), rows: new Int32Array(2 * (stop - first) + 1), more: new Int32Array(2 * (stop - first) + 1) };
+const slotOf = new Int32Array(stop - first);
+const total = (function makeSlots() {
+  let count = 0, top = -1;
+  function add(kind, row, more) {
+    slots.kinds[count] = kind;
+    slots.rows[count] = row;
+    slots.more[count] = more;
+    count += 1;
   }
-  slots.push({ kind: PAD, row: stop, more: 0 });
+  for (let row = first; row < stop;) {
+    if (heads.has(row) || tails.has(row)) top = -1;
+    if (heads.has(row)) {
+      top = count;
+      add(HEAD, row, 0);
+    }
+    const times = same.get(row) || 1, before = count;
+    slotOf.fill(count + 1, row - first, row - first + times);
+    slotOf[row - first] = count;
+    add(LINE, row, 0);
+    if (times > 1) add(SAME, row, times - 1);
+    if (top >= 0) slots.more[top] += count - before;
+    row += times;
+  }
+  add(PAD, stop, 0);
+  return count;
 })();
-const total = slots.length;
+function isLine(slot) { return slots.kinds[slot] === LINE; }
 function slotAt(row) { return row < first ? 0 : row >= stop ? total : slotOf[row - first]; }
 
 // the lanes: of the Deferreds that these lines mention, and if there are few also of those that were left before
-const lanes = new Map();
-let columns = [];
-const mentioned = Array.from(deferreds.values()).filter(one => one.made < stop && (one.last >= first || one.end !== 0));
-const shownDeferreds = mentioned.length <= STAY ? mentioned : mentioned.filter(one => one.last >= first);
-(function makeLanes() {
-  const stay = shownDeferreds.length <= STAY, own = shownDeferreds.length <= OWN, free = [];
-  shownDeferreds.forEach(one => {
-    const top = slotAt(Math.max(one.made, first));
-    const bottom = stay && one.end !== 0 ? total : Math.min(total, slotAt(Math.min(one.last, stop - 1)) + 2);
-    let column = own ? -1 : free.findIndex(until => until <= top);
-    if (column < 0) column = free.length;
-    if (column === MOST_COLUMNS) return;
-    if (column === free.length) columns.push({ tops: [], bottoms: [] });
-    free[column] = bottom + 1;
-    const lane = { one: one, column: column, top: top, bottom: bottom, x: 0, quiet: Math.min(total, one.last >= first ? slotAt(one.last) + 1 : 0), starts: [] };
-    for (let at = 0; at < one.spans.length; at += 2) lane.starts.push(slotAt(one.spans[at]));
-    columns[column].tops.push(top);
-    columns[column].bottoms.push(bottom);
-    lanes.set(one.number, lane);
-  });
+const lanes = new Map(), beside = [];
+const shownDeferreds = (function () {
+  const { ends, made, last } = columns, mentioned = Array.from(deferreds.values()).filter(at => made[at] < stop && (last[at] >= first || ends[at] !== 0));
+  return mentioned.length <= STAY ? mentioned : mentioned.filter(at => last[at] >= first);
 })();
 const ownColumns = shownDeferreds.length <= OWN;
-const laneWidth = widthOf(Math.max(1, columns.length), Array.from(lanes.keys()).reduce((most, number) => Math.max(most, String(number).length), 1));
-const fullWidth = Math.max(LEAST_WIDTH, 40 + Math.max(1, columns.length) * laneWidth + 80);
+(function makeLanes() {
+  const stay = shownDeferreds.length <= STAY, free = [];
+  shownDeferreds.forEach(at => {
+    const end = columns.ends[at], last = columns.last[at], top = slotAt(Math.max(columns.made[at], first));
+    const bottom = stay && end !== 0 ? total : Math.min(total, slotAt(Math.min(last, stop - 1)) + 2);
+    let column = ownColumns ? -1 : free.findIndex(until => until <= top);
+    if (column < 0) column = free.length;
+    if (column === MOST_COLUMNS) return;
+    if (column === free.length) beside.push({ tops: [], bottoms: [] });
+    free[column] = bottom + 1;
+    beside[column].tops.push(top);
+    beside[column].bottoms.push(bottom);
+    const number = columns.numbers[at], quiet = Math.min(total, last >= first ? slotAt(last) + 1 : 0);
+    lanes.set(number, { number, end, column, top, bottom, quiet, x: 0 });
+  });
+})();
+const laneWidth = widthOf(Math.max(1, beside.length), String(Array.from(lanes.keys()).reduce((most, number) => Math.max(most, number), 0)).length);
+const fullWidth = Math.max(LEAST_WIDTH, 40 + Math.max(1, beside.length) * laneWidth + 80);
 lanes.forEach(lane => { lane.x = LEFT + lane.column * laneWidth; });
 function widthOf(count, digits) {
   if (count <= 5) return 120;
@@ -61,7 +73,7 @@ function xOf(number) {
 // how many characters have room beside the beginning of a lane
 function roomOf(lane) {
   let after = lane.column + 1;
-  while (after < columns.length && !isTaken(columns[after], lane.top)) after += 1;
+  while (after < beside.length && !isTaken(beside[after], lane.top)) after += 1;
   return Math.floor(((after - lane.column) * laneWidth - 18) / 7);
 }
 function isTaken(column, slot) {
@@ -105,11 +117,16 @@ function near(buckets, from, to) {
 }
 
 // how wide the texts of the rows are drawn: by the longest, within bounds
-const sideWidth = NUMBER + RULER + Math.floor(Math.min(660, Math.max(430, 24 + 7.6 * slots.reduce((most, slot) => Math.max(most, charactersOf(slot)), 0))));
-function charactersOf(slot) {
-  if (slot.kind === HEAD) return 0.95 * (heads.get(slot.row).length + (eventPlaces.has(slot.row) ? placeText(eventPlaces.get(slot.row)).length + 2 : 0));
-  if (slot.kind !== LINE) return 0;
-  const named = namesOf(slot.row).reduce((sum, number) => sum + (deferreds.has(number) ? deferreds.get(number).name.length + 1 : 0), 0);
-  const tail = tails.get(slot.row), after = tail ? Math.min(tail.length, 40) + (eventPlaces.has(slot.row) ? placeText(eventPlaces.get(slot.row)).length + 2 : 0) : 0;
-  return lines[slot.row - first].length + named + 2.3 * Math.min(depthOf(slot.row), DEEPEST) + (causes.has(slot.row) ? 30 : 0) + 0.95 * after;
+const sideWidth = NUMBER + RULER + (function widest() {
+  let width = 430;
+  for (let slot = 0; slot < total && width < 660; slot += 1) width = Math.max(width, 24 + 7.6 * charactersOf(slots.kinds[slot], slots.rows[slot]));
+  return Math.floor(Math.min(660, width));
+})();
+function charactersOf(kind, row) {
+  const place = eventPlaces.has(row) ? placeText(eventPlaces.get(row)).length + 2 : 0;
+  if (kind === HEAD) return 0.95 * (heads.get(row).length + place);
+  if (kind !== LINE) return 0;
+  const named = namesOf(row).reduce((sum, number) => sum + nameOf(number).length + 1, 0);
+  const after = tails.has(row) ? Math.min(tails.get(row).length, 40) + place : 0;
+  return lines[row - first].length + named + 2.3 * Math.min(depthOf(row), DEEPEST) + (causes.has(row) ? 30 : 0) + 0.95 * after;
 }

@@ -52,12 +52,17 @@ class Entry(NamedTuple):
     head: int = 0
     #: which object of its kind is meant, where the facts say so
     object: int = -1
+    #: what a script expects of the Deferred, as `waiting` or `ok JSON`, if the line says so
+    expected: str = ""
 
     @property
     def fails(self) -> bool:
         """Whether it shows a failure, by its outcome, and not by what a text holds."""
         return self.word == "unhandled" or (self.outcome is not None and self.outcome.is_failure)
 
+
+#: a text up to what follows it, which isn't looked for in the strings of its JSON
+_OUT_OF_STRINGS = r'(?:[^"]|"(?:[^"\\]|\\.)*")*?'
 
 #: by the type of a part, how it is written, and where of an entry it goes
 _SHAPES: Dict[str, Tuple[str, str]] = {
@@ -75,7 +80,8 @@ _SHAPES: Dict[str, Tuple[str, str]] = {
     "value": (".*", "tail"),
     "failure": (".*", "tail"),
     "text": (".*", "tail"),
-    "state": (r"unfired|waiting #\d+|(?:ok|fail) .*", "tail"),
+    "state": (rf"unfired|waiting #\d+|(?:ok|fail) {_OUT_OF_STRINGS}", "tail"),
+    "expected": (r"unfired|waiting|(?:ok|fail) .*", "expected"),
 }
 
 
@@ -91,7 +97,8 @@ def _pattern(form: Line) -> Pattern[str]:
         if group in seen:
             group = {"deferred": "other", "name": "second"}.get(group, group)
         named = f"(?P<{group}>{shape})" if group not in seen else f"(?:{shape})"
-        written.append(f"#{named}" if group in ("deferred", "other") else named)
+        before = {"deferred": "#", "other": "#", "expected": "expected "}.get(group, "")
+        written.append(before + named)
         seen.add(group)
     return re.compile(" ".join(written), re.DOTALL)
 
@@ -128,8 +135,9 @@ def read_line(row: int, line: str, thing: int = -1) -> Entry:
         part.get("second") or "",
         int(part.get("number") or -1),
         Outcome(tail) if tail is not None and words in _SHOW_OUTCOMES else None,
-        len(line) if tail is None else len(line) - len(tail),
+        len(line) if tail is None else found.start("tail"),
         thing,
+        part.get("expected") or "",
     )
 
 

@@ -15,7 +15,7 @@ from ..checkout import as_called
 from .batches import Batches, text_of
 from .compared import Compared
 from .compared_forms import ComparedPage
-from .document import FRAME_BASE, asset, policy_hash, script_of, written
+from .document import FRAME_BASE, asset, hashes, page_file, script_of, written
 from .markup import isolated
 from .orders import Came, Endings, Orders, Way
 from .page import Page
@@ -67,24 +67,11 @@ class OrdersPage:
     def html(self) -> Html:
         """The whole page."""
         style, script = asset("style.css") + asset("orders.css"), script_of(_SCRIPTS)
-        return joined(
-            [
-                Html('<!doctype html><html lang=en><head><meta charset=utf-8><meta name=viewport content="width=device-width">'),
-                Html(f'<meta http-equiv=Content-Security-Policy content="{self._policy(style, script)}">'),
-                Html(f"<title>{escaped(self._title)}: {self._which}</title><style>{style}</style></head><body class=compared><main>"),
-                *self._verdict(),
-                *self._endings(),
-                *self._outcomes(),
-                *self._charts(),
-                *self._both(),
-                Html(f"</main><script>{script}</script></body></html>\n"),
-            ]
-        )
-
-    def _policy(self, style: str, script: str) -> str:
-        """The policy of the page, which holds for its frames, too."""
-        styles, scripts = _hashes([style, asset("style.css")]), _hashes([script, script_of()])
-        return f"default-src 'none'; style-src {styles}; script-src {scripts}; base-uri {FRAME_BASE}; form-action 'none'"
+        # (the policy holds for the frames of the page, too)
+        allowed = f"style-src {hashes(style, asset('style.css'))}; script-src {hashes(script, script_of())}; base-uri {FRAME_BASE}"
+        pieces = (*self._verdict(), *self._endings(), *self._outcomes(), *self._charts(), *self._both())
+        body = [Html("<body class=compared><main>"), *pieces, Html(f"</main><script>{script}</script>")]
+        return page_file(Html(f"{escaped(self._title)}: {self._which}"), allowed, style, body)
 
     # above the tables
 
@@ -286,7 +273,3 @@ def share(part: int, whole: int) -> str:
         return "100%"
     percent = 100 * part / whole
     return f"{min(percent, 99.9):.1f}%" if percent >= 0.1 else "<0.1%"
-
-
-def _hashes(texts: Sequence[str]) -> str:
-    return " ".join(f"'{policy_hash(text)}'" for text in texts)

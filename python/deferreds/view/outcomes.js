@@ -6,7 +6,7 @@ function spentOf(one) {
 }
 // how many firings had no effect
 function inVain(one) {
-  return [["x", "refused"], ["s", "swallowed"]].map(kind => [stepsOf(one).filter(step => step.does === kind[0]).length, kind[1]])
+  return [["x", "refused"], ["s", "swallowed"]].map(kind => [one.steps.filter(step => step.does === kind[0]).length, kind[1]])
     .filter(kind => kind[0]).map(kind => several(kind[0], "firing", "firings") + " " + kind[1]);
 }
 function field(kind, ...held) {
@@ -21,7 +21,7 @@ function firedBy(one) {
   return nodes;
 }
 function outcomeRow(number) {
-  const one = deferreds.get(number), row = made("tr"), waits = one.end === 2 && one.waits >= 0;
+  const one = deferredOf(number), row = made("tr"), waits = one.end === 2 && one.waits >= 0;
   row.dataset.d = number;
   const value = field("mono value", waits ? "for " : one.value ? isolated(one.value) : "");
   if (waits) value.append(deferredLink(one.waits));
@@ -54,7 +54,7 @@ const axis = data.axis, time = document.getElementById("time");
 function percent(at) { return Number((100 * at / axis.end).toFixed(2)) + "%"; }
 function strokeOf(kind, from, to, y) { return drawn("line", { class: kind, x1: percent(from), x2: percent(to), y1: y, y2: y }); }
 function axisRow(number) {
-  const one = deferreds.get(number), row = made("tr"), name = field("mono", deferredLink(number), " ", made("span", "t-" + CLASSES[one.end], SIGNS[one.end]));
+  const one = deferredOf(number), row = made("tr"), name = field("mono", deferredLink(number), " ", made("span", "t-" + CLASSES[one.end], SIGNS[one.end]));
   const picture = drawn("svg", { width: "100%", height: 14 }), stuck = one.spans[one.spans.length - 1];
   const until = one.end === 0 || one.end === 1 ? stuck === 2 * STATES.indexOf("run") ? data.total : one.last : data.total;
   for (let at = 0; at < one.spans.length; at += 2) {

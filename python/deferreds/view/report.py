@@ -160,11 +160,14 @@ class Report:
 
     def _unmet(self, row: Row) -> List[Phrase]:
         """What was expected of a Deferred, and what it is; or that its name is bound to none."""
-        expected = self._script.expected(row.event) if row.event is not None else ""
+        expected = row.entry.expected
+        if row.entry.word == "unbound" and row.event is not None:
+            expected = self._script.expected(row.event)
         what = words(", and ", OfScript(expected), " was expected") if expected else words()
         if row.entry.word == "unbound":
             return [("no Deferred has the name ", OfScript(row.entry.line[row.entry.head :]), *what)]
-        return [(OfDeferred(row.entry.deferred), " is ", OfScript(row.entry.line[row.entry.head :]), *what)]
+        is_now = row.entry.line[row.entry.head :].removesuffix(f" expected {row.entry.expected}")
+        return [(OfDeferred(row.entry.deferred), " is ", OfScript(is_now), *what)]
 
     def _missing(self) -> str:
         """What a text that was cut off lacks: outcomes, or only what comes after them."""
@@ -264,6 +267,7 @@ class Report:
             self._inferred.made_at(record),
             self._inferred.called(record),
             self._inferred.among(record),
+            self._inferred.others_fired(record),
             [places],
             stopped,
             [(pairs,)] if record.pairs else [],
@@ -337,7 +341,7 @@ class Report:
         queue = self._fold.world.queues.at(one.number)
         if queue is None:
             return None
-        waits = several(len(one.waiting), "waits", "wait")
+        waits = several(len(one.waiting), "Deferred waits", "Deferreds wait")
         said: Phrase = (f"{waits} for a value of {queue.name}, and nothing is put",)
         made, got = self._inferred.thing_made_at(queue.name), self._inferred.getters(queue)
         return Finding(Severity.LEFT, Kind.GETTER, said, details_of(made, got, self._held(Root(At.QUEUE, one.number))), queue.row)

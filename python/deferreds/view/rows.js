@@ -15,30 +15,31 @@ let printed = null;
 function isShown(slot) { return above[slot + 1] > above[slot]; }
 // where a slot stands now: its middle if it is shown
 function heightOf(slot) { return above[slot] * SLOT + (slot < total && isShown(slot) ? SLOT / 2 : 0); }
-function isRowShown(row) { return isHere(row) && slots[slotAt(row)].kind === LINE && isShown(slotAt(row)); }
+function isRowShown(row) { return isHere(row) && isLine(slotAt(row)) && isShown(slotAt(row)); }
 
 function passing() {
-  const names = Object.keys(sieves), shown = new Uint8Array(total);
-  slots.forEach((slot, at) => { shown[at] = slot.kind === PAD || (slot.kind === LINE && names.every(name => sieves[name](slot.row))) ? 1 : 0; });
+  const tests = Object.values(sieves), shown = new Uint8Array(total);
+  for (let slot = 0; slot < total; slot += 1) shown[slot] = slots.kinds[slot] === PAD || (isLine(slot) && tests.every(test => test(slots.rows[slot]))) ? 1 : 0;
   // the head of an event stands where one of its lines does, and how often a line comes again where the line does
   let next = total;
   for (let at = total - 1; at >= 0; at -= 1) {
-    if (slots[at].kind === HEAD) shown[at] = next <= at + slots[at].more ? 1 : 0;
-    else if (slots[at].kind === SAME) shown[at] = shown[at - 1];
+    if (slots.kinds[at] === HEAD) shown[at] = next <= at + slots.more[at] ? 1 : 0;
+    else if (slots.kinds[at] === SAME) shown[at] = shown[at - 1];
     else if (shown[at]) next = at;
   }
   return shown;
 }
 // works out anew which rows are shown; a row or an element that is kept stays where it is seen
 function lay(kept) {
-  const before = kept === undefined ? null : topOf(kept), shown = passing(), found = [];
+  const before = kept === undefined ? null : topOf(kept), shown = passing(), found = new Int32Array(total);
+  let count = 0;
   for (let slot = 0; slot < total; slot += 1) {
-    above[slot] = found.length;
-    if (shown[slot]) found.push(slot);
+    above[slot] = count;
+    if (shown[slot]) found[count++] = slot;
   }
-  above[total] = found.length;
-  shownSlots = Int32Array.from(found);
-  rowsBox.style.height = found.length * SLOT + "px";
+  above[total] = count;
+  shownSlots = found.subarray(0, count);
+  rowsBox.style.height = count * SLOT + "px";
   parts.forEach(part => part.remove());
   parts.clear();
   drawSeen();
@@ -77,7 +78,7 @@ function partOf(number) {
   part.style.top = (from - (printed ? Math.floor(printed.from / CHUNK) * CHUNK : 0)) * SLOT + "px";
   part.style.height = at.slots.length * SLOT + "px";
   inChart = true;
-  at.slots.forEach(slot => side.append(slotElement(slots[slot])));
+  at.slots.forEach(slot => side.append(slotElement(slot)));
   inChart = false;
   side.append(rulerPicture(at));
   part.append(side, lanesPicture(at));
@@ -100,11 +101,12 @@ function cell(name, kind, ...held) {
 function slotElement(slot) {
   const row = made("div", "row");
   row.setAttribute("role", "row");
-  if (slot.kind === LINE) return lineElement(row, slot.row);
-  if (slot.kind === HEAD) return headElement(row, slot.row);
-  if (slot.kind === SAME) {
+  const kind = slots.kinds[slot], at = slots.rows[slot], more = slots.more[slot];
+  if (kind === LINE) return lineElement(row, at);
+  if (kind === HEAD) return headElement(row, at);
+  if (kind === SAME) {
     row.classList.add("same");
-    row.append(cell("span", "n", "⋮"), cell("span", "t", "the same line " + slot.more + " times more, up to line " + (slot.row + slot.more + 1)));
+    row.append(cell("span", "n", "⋮"), cell("span", "t", "the same line " + more + " times more, up to line " + (at + more + 1)));
   } else row.removeAttribute("role");
   return row;
 }
@@ -179,14 +181,14 @@ function bringToSight(row, always) {
 // the row that is seen at a height of the screen, or null
 function rowAt(height) {
   const place = Math.floor((height - rowsBox.getBoundingClientRect().top) / SLOT);
-  for (let at = Math.max(0, place); place < shownSlots.length && at < shownSlots.length; at += 1) if (slots[shownSlots[at]].kind === LINE) return slots[shownSlots[at]].row;
+  for (let at = Math.max(0, place); place < shownSlots.length && at < shownSlots.length; at += 1) if (isLine(shownSlots[at])) return slots.rows[shownSlots[at]];
   return null;
 }
 
 // the head, which stays in sight, and what the page needs to be as wide as its chart
 function laneHead() {
   const picture = drawn("svg", { width: fullWidth, height: 22 }), room = Math.floor((laneWidth - 8) / 7), there = lanes.size, every = shownDeferreds.length;
-  if (ownColumns) lanes.forEach(lane => picture.append(drawn("text", { class: "dim", x: lane.x - 6, y: 15 }, clipped(labelOf(lane.one.number), room))));
+  if (ownColumns) lanes.forEach(lane => picture.append(drawn("text", { class: "dim", x: lane.x - 6, y: 15 }, clipped(labelOf(lane.number), room))));
   else {
     const which = there < every ? there + " of " + every + " Deferreds: no more stand beside each other; " : there + " Deferreds; ";
     picture.append(drawn("text", { class: "dim", x: 14, y: 15 }, "lanes of " + which + "a column is used again when one is done"));

@@ -67,7 +67,7 @@ function endSearch() {
 }
 find.addEventListener("input", () => {
   clearTimeout(waiting);
-  if (slots.length < MANY) return sift();
+  if (total < MANY) return sift();
   waiting = setTimeout(sift, 150);
 });
 function sift() {

@@ -7,7 +7,7 @@ const HANGS = {
 const tree = document.getElementById("tree");
 let planted = null;
 
-function stepsFor(number) { return deferreds.has(number) ? stepsOf(deferreds.get(number)) : []; }
+function stepsFor(number) { return deferreds.has(number) ? deferredOf(number).steps : []; }
 function pairsOf(one) { return one.pairs ? [several(one.pairs, "pair waits", "pairs wait")] : []; }
 // what the inline body of a Deferred was called with, if that is known
 function calledAs(number) { return data.calls[number] ? [", called as ", isolated(data.calls[number])] : []; }
@@ -57,7 +57,7 @@ function whom(number, opens) {
   const text = made("span"), link = made("a", "mono", labelOf(number));
   link.href = "#d=" + number;
   text.append(link);
-  if (opens && deferreds.has(number)) text.append(made("span", "why", " [" + spent(deferreds.get(number)) + "]"));
+  if (opens && deferreds.has(number)) text.append(made("span", "why", " [" + spent(deferredOf(number)) + "]"));
   return text;
 }
 function until(step) { return step.end === null ? [", and still does"] : [", until ", lineLink(step.end), ": " + inTicks(step.ticks)]; }
@@ -102,7 +102,7 @@ function treeHead(one, rows) {
   const head = made("h2", "", labelOf(one.number)), about = made("p", "facts");
   head.append(...calledAs(one.number), ", with all that hangs on it");
   about.append(ENDS[one.end] + " ", made("span", "mono", one.value), ": " + spent(one));
-  const vain = stepsOf(one).filter(step => "xs".includes(step.does));
+  const vain = one.steps.filter(step => "xs".includes(step.does));
   vain.slice(0, MOST_NAMED).forEach((step, place) => about.append(place ? ", " : " in ", lineLink(step.row)));
   const back = made("a", "", "all lines"), hidden = lineRows().filter(row => !rows.has(row)).length;
   back.href = "#what";
@@ -116,7 +116,7 @@ function treeHead(one, rows) {
   return [head, about];
 }
 function plant(number) {
-  const one = deferreds.get(number), branches = branchesOf(number), rows = new Set();
+  const one = deferredOf(number), branches = branchesOf(number), rows = new Set();
   branches.found.forEach(each => [each.step.row, each.step.end].forEach(row => { if (row !== null) rows.add(row); }));
   const kept = withAround(rows);
   planted = number;

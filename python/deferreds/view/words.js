@@ -49,8 +49,8 @@ function shortTime(time) {
 }
 
 function labelOf(number, named) {
-  const one = deferreds.get(number);
-  return "#" + number + (named !== false && one && one.name ? " " + one.name : "");
+  const name = named === false ? "" : nameOf(number);
+  return "#" + number + (name ? " " + name : "");
 }
 // a click chooses the Deferred
 function deferredLink(number, named) {

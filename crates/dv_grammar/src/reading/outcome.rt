@@ -8,8 +8,8 @@ use dv_forms::leaf::{call, none, text, two};
 use dv_forms::shape_fault::ShapeFault;
 use dv_forms::words::OutcomeWord;
 use dv_script::event::Event;
-use dv_script::expected::Expected;
 use dv_value::classes::Classes;
+use dv_value::expected::Expected;
 use std::alloc::Global;
 
 /// What is expected of a Deferred.

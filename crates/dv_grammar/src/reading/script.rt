@@ -18,7 +18,7 @@ use dv_forms::leaf::{array, fields, number, small, text, two};
 use dv_forms::limits::most_limit;
 use dv_forms::shape_fault::ShapeFault;
 use dv_forms::table::{declarations, table};
-use dv_forms::versions::{BODIES_SINCE, LAST_VERSION};
+use dv_forms::versions::{BODIES_SINCE, COOPERATORS_SINCE, ENDS_THROW_SINCE, LAST_VERSION};
 use dv_script::body::Body;
 use dv_script::event::Event;
 use dv_script::limits::{MOST_LEVELS, MOST_WORKERS, USUAL_LIMIT};
@@ -211,7 +211,7 @@ fn named_cooperator(alloc: Global, json: Json<'_>) -> Result<NamedCooperator, Sh
 {
     let (name, settings) = two(array(json)?)?;
     let name = text(alloc, name)?;
-    let settings = cooperator(settings)?;
+    let settings = cooperator(COOPERATORS_SINCE, settings)?;
     Ok(NamedCooperator { name, settings })
 }
 
@@ -264,7 +264,7 @@ pub fn shape(alloc: Global, expands: bool, json: Json<'_>) -> Result<Draft, Shap
     let version = version(json.get("version"))?;
     fields_of(version, json)?;
     let limit = limit(version, json.get("limit"))?;
-    let cooperator = cooperator_or_plain(json.get("cooperator"))?;
+    let cooperator = cooperator_or_plain(version, json.get("cooperator"))?;
     let cooperators = named_cooperators(alloc, json.get("cooperators"))?;
     let pools = pools(alloc, json.get("pools"))?;
     let declared = declarations(alloc, json.get("classes"))?;
@@ -278,6 +278,7 @@ pub fn shape(alloc: Global, expands: bool, json: Json<'_>) -> Result<Draft, Shap
         all_declared,
         script: Script {
             classes,
+            ends_throw: ENDS_THROW_SINCE <= version,
             limit,
             cooperator,
             cooperators,

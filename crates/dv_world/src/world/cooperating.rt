@@ -29,11 +29,12 @@ impl<'s> World<'s> {
     ghost use Rattle.dv_world.specs.World.{aside, arrange, cooperator_at, cooperator_of};
     ghost use Rattle.dv_world.specs.World.{new_task, new_task_in, take_step, pause_task};
     ghost use Rattle.dv_world.specs.World.{resume_task, hold_task, end_task, await_task};
-    ghost use Rattle.dv_world.specs.World.{keep_tick, begin_tick, end_tick, set_units};
+    ghost use Rattle.dv_world.specs.World.{keep_tick, want_tick, begin_tick, end_tick, set_units};
     ghost use Rattle.dv_world.specs.World.{set_units_in, halt};
 
-    /// Makes a task of bodies in the Cooperator that each script has, and binds its name to it, also
-    /// where that was bound to another; it takes turns, last (Twisted: `Cooperator.cooperate`).
+    /// Makes a task of bodies in the Cooperator that each script has, and binds its name to it,
+    /// also where that was bound to another; it takes turns, last (Twisted:
+    /// `Cooperator.cooperate`).
     #[tactic(auto, unfolding(crate::specs::World::aside))]
     pub fn make_task(&mut self, name: TextRef<'s>, bodies: BodiesRef<'s>) -> Result<(), AllocError>
         ensures { OnOk result (self.new ≡ new_task name.entry bodies.entry self.old) }
@@ -111,8 +112,9 @@ impl<'s> World<'s> {
     }
 
     /// Logs the next step of a Cooperator, and returns the task that takes it with its next body,
-    /// where one is left; None where nobody takes turns.
-    #[tactic(auto, unfolding(crate::specs::World::aside))]
+    /// where one is left; None where nobody takes turns, and then the next turn is that of the
+    /// first that joins.
+    #[tactic(auto, unfolding(crate::specs::World::aside, crate::specs::World::arrange))]
     pub fn take_step(
         &mut self,
         of: CooperatorId,
@@ -123,6 +125,7 @@ impl<'s> World<'s> {
             return Ok(None);
         }
         let Some(id) = self.cooperators.turn(of) else {
+            self.cooperators.go_on(of);
             return Ok(None);
         };
         let Some(task) = self.cooperators.task(id) else {
@@ -234,8 +237,8 @@ impl<'s> World<'s> {
         }
     }
 
-    /// Outside of ticks of a Cooperator, one is scheduled while somebody takes turns in it, and none
-    /// while nobody does (Twisted: `Cooperator._reschedule`).
+    /// Outside of ticks of a Cooperator, one is scheduled while somebody takes turns in it, and
+    /// none while nobody does (Twisted: `Cooperator._reschedule`).
     pub fn keep_tick(&mut self, of: CooperatorId) -> Result<(), AllocError>
         ensures { OnOk result (self.new ≡ keep_tick of self.old) }
     {
@@ -251,6 +254,22 @@ impl<'s> World<'s> {
             self.drop_tick(of, tick);
         }
         Ok(())
+    }
+
+    /// After a task has joined a Cooperator its next tick is scheduled, unless one is, or one is
+    /// under way; by Twisted's rule also while one is under way (Twisted: `Cooperator._addTask`).
+    pub fn want_tick(&mut self, of: CooperatorId) -> Result<(), AllocError>
+        ensures { OnOk result (self.new ≡ want_tick of self.old) }
+    {
+        let Some(one) = self.cooperators.cooperator(of) else {
+            return Ok(());
+        };
+        if !one.wants_tick_at_once() {
+            return Ok(());
+        }
+        let what = one.next_tick(self.alloc, of)?;
+        let delay = one.delay;
+        self.schedule_tick(of, what, delay)
     }
 
     /// Schedules the next tick of a Cooperator.

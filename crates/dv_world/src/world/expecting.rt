@@ -5,9 +5,9 @@ ghost use Rattle.dv_world.specs.Expecting.{is_met};
 use super::World;
 use dv_journal::deferred_id::DeferredId;
 use dv_journal::state::State;
-use dv_script::expected::Expected;
 use dv_script::same::is_same_value;
 use dv_store::record::Record;
+use dv_value::expected::Expected;
 use std::alloc::{AllocError, Global};
 
 impl World<'_> {

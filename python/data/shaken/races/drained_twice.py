@@ -11,15 +11,16 @@ sent = []
 @defer.inlineCallbacks
 def drain():
     waiting = list(backlog)
-    yield threads.deferToThread(time.sleep, 0.002)
-    sent.extend(waiting)
+    for name in waiting:
+        yield threads.deferToThread(time.sleep, 0.002)
+        sent.append(name)
     del backlog[: len(waiting)]
 
 
 def main():
     reactor.callLater(0.01, drain)
-    reactor.callLater(0.05, drain)
-    reactor.callLater(0.2, reactor.stop)
+    reactor.callLater(0.12, drain)
+    reactor.callLater(0.45, reactor.stop)
 
 
 reactor.callWhenRunning(main)

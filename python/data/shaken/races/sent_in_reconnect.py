@@ -37,9 +37,9 @@ def connect(port):
     link["again"] = lambda: endpoints.connectProtocol(where, Client())
     link["again"]()
     reactor.callLater(0.12, send, b"one")
-    reactor.callLater(0.16, lambda: servers[0].transport.loseConnection())
-    reactor.callLater(0.2, send, b"two")
-    reactor.callLater(0.36, reactor.stop)
+    reactor.callLater(0.21, lambda: servers[0].transport.loseConnection())
+    reactor.callLater(0.28, send, b"two")
+    reactor.callLater(0.44, reactor.stop)
 
 
 def main():

@@ -1,4 +1,4 @@
-"""A service opens its store while it starts. A stop that comes in between closes nothing, and the store stays open."""
+"""A service opens its store in steps while it starts. A stop that comes in between closes nothing, and the store stays open."""
 import sys
 import time
 
@@ -12,7 +12,8 @@ class Service:
 
     @defer.inlineCallbacks
     def start(self):
-        yield threads.deferToThread(time.sleep, 0.003)
+        for _ in ("settings", "index", "store"):
+            yield threads.deferToThread(time.sleep, 0.002)
         store["is_open"] = True
         self.is_started = True
 
@@ -24,8 +25,8 @@ class Service:
 def main():
     service = Service()
     service.start()
-    reactor.callLater(0.035, service.stop)
-    reactor.callLater(0.2, reactor.stop)
+    reactor.callLater(0.1, service.stop)
+    reactor.callLater(0.35, reactor.stop)
 
 
 reactor.callWhenRunning(main)

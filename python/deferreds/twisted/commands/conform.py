@@ -90,6 +90,7 @@ def _arguments(words: List[str]) -> argparse.Namespace:
         help="only what this level and those before it have (default: all)",
     )
     add("--version", type=int, choices=LANGUAGE.versions, help="only random scripts of this version of the language (default: all)")
+    add("--turns", choices=[grammar.FAIR, grammar.TWISTED], help="only random scripts whose tasks, if they have any, all take turns by this rule")
     add("--no-refusals", action="store_true", help="leave out the rows whose scripts are refused")
     add("--orders", action="store_true", help="compare a script with posts in every order of them")
     add("--most", type=_most, metavar="N", help=f"with --orders: in at most N orders of a script ({_ORDERS})")
@@ -124,6 +125,9 @@ def _arguments(words: List[str]) -> argparse.Namespace:
     if parsed.version is not None and not grammar.has_version(parsed.level, parsed.version):
         print(f"{command_name('conform')}: no script of the level {parsed.level} is of version {parsed.version}", file=sys.stderr)
         raise SystemExit(USAGE)
+    if parsed.turns is not None and not _may_have_turns(parsed.turns, parsed.level, parsed.version):
+        print(f"{command_name('conform')}: no such script has tasks that take turns by this rule", file=sys.stderr)
+        raise SystemExit(USAGE)
     if parsed.most is not None and not parsed.orders:
         print(f"{command_name('conform')}: --most is for --orders", file=sys.stderr)
         raise SystemExit(USAGE)
@@ -132,6 +136,12 @@ def _arguments(words: List[str]) -> argparse.Namespace:
         raise SystemExit(USAGE)
     parsed.most = parsed.most or _ORDERS
     return parsed
+
+
+def _may_have_turns(turns: str, level: str, version: Optional[int]) -> bool:
+    """Whether random scripts of a level and a version, or of all that the level has, may have tasks that take turns by a rule."""
+    last = max(each for each in LANGUAGE.versions if grammar.has_version(level, each)) if version is None else version
+    return grammar.has(level, "cooperator") and (turns == grammar.FAIR or last >= grammar.TURN_RULES_SINCE)
 
 
 def read_script(name: str) -> str:

@@ -13,7 +13,7 @@ from __future__ import annotations
 import functools
 import sys
 import weakref
-from typing import Any, Callable, Dict, Iterator, List, NamedTuple, Optional, Tuple
+from typing import AbstractSet, Any, Callable, Dict, Iterator, List, NamedTuple, Optional, Tuple
 
 from twisted.internet import task
 from twisted.internet.defer import AlreadyCalledError, Deferred
@@ -49,13 +49,25 @@ class Tick(NamedTuple):
     steps: int
     left: bool
     event: Optional[Action]
+    #: whether the tick before it, after which no task was left, must have looked for the next one, by which a new round begins;
+    #: or must not have, since its steps were used up. None: it may have
+    before_looked: Optional[bool] = None
 
 
 class Cooperating:
     """What is kept of a Cooperator of the run, or of several: one that has no tasks any more leaves its name to another of its kind."""
 
-    def __init__(self, cooperator: Any, name: Optional[str] = None, inner: Optional[Inner] = None) -> None:
+    def __init__(
+        self,
+        cooperator: Any,
+        name: Optional[str] = None,
+        inner: Optional[Inner] = None,
+        of_turns: AbstractSet[Entry] = frozenset(),
+    ) -> None:
+        """`of_turns`: the entries of how tasks take turns that it can reach, which is none where they do so as Twisted has it."""
         self._cooperator = weakref.ref(cooperator)
+        self.of_turns = of_turns
+        self.is_fair = Entry.SKIPPED_TURN in of_turns
         #: its name, where the script names it, and where it is noted what it does by itself
         self.thing = None if name is None else Thing(name)
         self.inner = inner
@@ -73,9 +85,12 @@ class Cooperating:
         #: whether its scheduler isn't the clock of the run, so that its ticks are the only time there is
         self.alone = False
         self.time = 0
-        #: whose turn is next, where nobody is skipped, and whether a task has left the list since when that was nobody's
+        #: whose turn is next, by the rule of the script; and where nobody is skipped, whether it was nobody's when a task had left
         self.place = 0
         self.is_round_over = False
+        #: what the next step shows of whether the last tick has looked for another task, and whether it may have or not
+        self.before_looked: Optional[bool] = None
+        self.may_have_looked = True
         #: how many of its tasks haven't ended
         self.live = 0
         #: where it was made, and after how many seconds its ticks are due
@@ -91,25 +106,46 @@ class Cooperating:
         """The program's, as long as it has that."""
         return self._cooperator()
 
-    def step(self, stepped: Any) -> Optional[Entry]:
-        """It is the turn of this task. The entry that says so, if it isn't where nobody is skipped.
+    def step(self, watcher: Observer, stepped: Any) -> None:
+        """It is the turn of this task. Notes the entry that says so, if it isn't by the rule of the script.
 
         One that was stopped with all others has no place.
         """
         tasks = self.cooperator._tasks
         if stepped not in tasks:
-            return None
-        is_round_over, expected = self.is_round_over, tasks[self.place % len(tasks)]
-        self.place, self.is_round_over = tasks.index(stepped) + 1, False
-        if stepped is expected:
-            return None
-        return Entry.JOIN_AFTER_THE_LAST if is_round_over and self.place == 1 else Entry.SKIPPED_TURN
+            return
+        at = tasks.index(stepped)
+        expected = self.place if self.place < len(tasks) else 0
+        if not self.is_fair:
+            self._note_round(watcher, at, expected)
+        elif at != expected:
+            _quirk(watcher, self, Entry.JOIN_AFTER_THE_LAST if self.is_round_over and at == 0 else Entry.SKIPPED_TURN)
+        self.place, self.is_round_over, self.may_have_looked = at + 1, False, False
+
+    def _note_round(self, watcher: Observer, at: int, expected: int) -> None:
+        """Notes whether a new round has begun with the task at this place of the list, where the last round leads to another."""
+        if expected == 0 and at == 0:
+            return
+        if self.may_have_looked and at in (0, expected):
+            self.before_looked = at == 0
+        elif at != expected:
+            _refuse(watcher, self, "a Cooperator whose tasks took turns before the recording")
 
     def leaves(self, leaving: Any) -> None:
-        """A task leaves the list."""
+        """A task leaves the list. Where the rule is Twisted's, the place stays the same."""
+        if not self.is_fair:
+            return
         tasks = self.cooperator._tasks
         self.place -= tasks.index(leaving) < self.place
-        self.is_round_over = self.is_round_over or self.place >= len(tasks) - 1
+        if self.place >= len(tasks) - 1:
+            self.is_round_over = Entry.JOIN_AFTER_THE_LAST in self.of_turns
+            self.place = self.place if self.is_round_over else 0
+
+    def end_tick(self, event: Optional[Action]) -> None:
+        """A tick has ended."""
+        left = bool(self.cooperator._tasks)
+        self.ticks.append(Tick(self.steps, left, event, self.before_looked))
+        self.in_tick, self.before_looked, self.may_have_looked = False, None, not left
 
     def word(self, word: str, end: str = "") -> Thing:
         """The first words of a line: those of a Cooperator with a name have another word, and the name."""
@@ -123,7 +159,7 @@ class Cooperating:
         """Whether it can be another Cooperator, made there, whose ticks are due after so many seconds."""
         cooperator = self.cooperator
         is_used = cooperator is not None and (cooperator._tasks or cooperator._stopped)
-        is_idle = not (is_used or self.is_stopped or self.live or self.in_tick)
+        is_idle = not (is_used or self.is_stopped or self.live or self.in_tick) and self.may_have_looked
         return is_idle and self.made_at == made_at and self.delay == delay
 
     def become(self, cooperator: Any) -> None:
@@ -131,7 +167,7 @@ class Cooperating:
         before = self.cooperator
         if before is not None:
             before._dv_cooperating = None
-        self._cooperator, self.place = weakref.ref(cooperator), 0
+        self._cooperator = weakref.ref(cooperator)
 
     def keep(self, scheduled: Any) -> None:
         """A Clock has scheduled its tick."""
@@ -459,7 +495,7 @@ def _instrumented_reschedule(self: Any) -> None:
     if watcher is None or cooperating is None or not wanted:
         _reschedule(self)
         return
-    if cooperating.in_tick and sys._getframe(1).f_code is not _tick.__code__:
+    if cooperating.is_fair and cooperating.in_tick and sys._getframe(1).f_code is not _tick.__code__:
         _quirk(watcher, cooperating, Entry.TICK_SCHEDULED_IN_A_TICK)
     cooperating.seen = False
     try:
@@ -516,9 +552,7 @@ def _run_tick(watcher: Observer, cooperating: Cooperating) -> None:
         else:
             _run_noted(watcher, cooperating, cooperating.inner, event)
     finally:
-        left = bool(cooperating.cooperator._tasks)
-        cooperating.ticks.append(Tick(cooperating.steps, left, event))
-        cooperating.in_tick = False
+        cooperating.end_tick(event)
 
 
 def _run_noted(watcher: Observer, cooperating: Cooperating, inner: Inner, event: Action) -> None:
@@ -594,9 +628,7 @@ def _instrumented_work(self: Any) -> None:
         _work(self)
         return
     cooperating.steps += 1
-    entry = cooperating.step(self)
-    if entry is not None:
-        _quirk(watcher, cooperating, entry)
+    cooperating.step(watcher, self)
     watcher.tell("step ", known.thing)
     iterator = self._iterator
     self._iterator = _Asked(watcher, known, iterator)

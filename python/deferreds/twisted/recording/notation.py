@@ -10,7 +10,7 @@ from __future__ import annotations
 import enum
 
 #: what the first segment begins with, and the version of the notes
-MAGIC, VERSION = "deferreds notes", 2
+MAGIC, VERSION = "deferreds notes", 3
 
 #: how many bits say of what kind a part is
 BITS = 5

@@ -243,6 +243,9 @@ class _Reader:
     def _integer_or_none(self) -> Optional[int]:
         return None if self._is_none() else self._integer()
 
+    def _flag_or_none(self) -> Optional[bool]:
+        return None if self._is_none() else self._flag()
+
     def _text_or_none(self) -> Optional[str]:
         return None if self._is_none() else self._text()
 
@@ -588,7 +591,7 @@ class _Reader:
             cooperating.name_it(thing)
         cooperating.delays += [self._time() for _ in range(self._count())]
         for _ in range(self._count()):
-            cooperating.ticks.append(Tick(self._integer(), self._flag(), self._action_or_none()))
+            cooperating.ticks.append(Tick(self._integer(), self._flag(), self._action_or_none(), self._flag_or_none()))
 
     # what objects do by themselves
 

@@ -757,7 +757,7 @@ class Noting:
             self._time(delay)
         self._out.append(len(cooperating.ticks))
         for tick in cooperating.ticks:
-            self._out += (tick.steps, tick.left, NONE if tick.event is None else tick.event.noted_as)
+            self._out += (tick.steps, tick.left, NONE if tick.event is None else tick.event.noted_as, tick.before_looked)
 
     # what objects do by themselves
 

@@ -9,7 +9,7 @@ import math
 from bisect import bisect_left, bisect_right
 from fractions import Fraction
 from itertools import accumulate, compress, count
-from typing import Any, Dict, Iterator, List, NamedTuple, Optional, Sequence, Set, Tuple, Union
+from typing import Any, Container, Dict, Iterator, List, NamedTuple, Optional, Sequence, Set, Tuple, Union
 
 from ...language import LANGUAGE
 from .. import grammar
@@ -271,18 +271,24 @@ class Said:
         for problem in self._recorder.problems:
             if problem.inner is not None:
                 reasons.setdefault(problem.inner, problem.reason)
-        for cooperating in self._cooperators():
-            if cooperating.inner is not None and self._lack(cooperating):
-                reasons.setdefault(cooperating.inner, self._lack(cooperating))
         for inner, entry in self._recorder.quirks_of:
             if not inner.unclear:
                 reasons.setdefault(inner, f"Twisted does what docs/TWISTED.md says of {entry.value}")
-        if conflict is not None:
-            in_the_way = self._in_the_way(conflict)
-            if in_the_way is not None:
-                reasons.setdefault(in_the_way, conflict.reason)
+        in_the_way = None if conflict is None else self._in_the_way(conflict)
+        if in_the_way is not None and not in_the_way.unclear and in_the_way not in self._left:
+            assert conflict is not None
+            # (the times of ticks, and the advances that are recorded, are known once nothing is in the way)
+            reasons.setdefault(in_the_way, conflict.reason)
+        else:
+            reasons.update(self._lacks(reasons))
         self._stuck.update((inner, inner.unclear) for inner in reasons if inner.unclear)
         return {inner: why for inner, why in reasons.items() if not inner.unclear and inner not in self._left}
+
+    def _lacks(self, known: Container[Inner]) -> Dict[Inner, str]:
+        """Why a script can't say the ticks of some Cooperators, but for these."""
+        cooperating = [one for one in self._cooperators() if one.inner is not None and one.inner not in known]
+        lacks = [(one.inner, self._lack(one)) for one in cooperating]
+        return {inner: lack for inner, lack in reversed(lacks) if inner is not None and lack}
 
     def _in_the_way(self, conflict: Conflict) -> Optional[Inner]:
         """What may be left out because no times give the order of what happened: a loop, or else further Cooperators, or else the first."""
@@ -562,12 +568,13 @@ class Said:
     def _version(self, script: Dict[str, Any]) -> int:
         """The least version that has the words of a script, and its limit."""
         keys = [key.since for key in LANGUAGE.keys_of("script") if key.key in script]
+        turns = [grammar.TURN_RULES_SINCE] if "cooperator" in script else []
         actions = [action for _, action in actions_of(script, self.acted)]
         forms = {(action[0], len(action) - 1) for action in actions}
-        turns = [grammar.TURNS_SINCE] if any(map(_has_turns, actions)) else []
+        loops = [grammar.TURNS_SINCE] if any(map(_has_turns, actions)) else []
         failures = [grammar.FAILURES_SINCE] if _has_failures([script["events"], self._declared.pairs]) else []
         large = [_LARGE_SINCE] if script["limit"] > _SMALL_LIMIT else []
-        return max([*keys, *turns, *failures, *large, *(grammar.ACTIONS_SINCE.get(form, 1) for form in forms)])
+        return max([*keys, *turns, *loops, *failures, *large, *(grammar.ACTIONS_SINCE.get(form, 1) for form in forms)])
 
     def _cannot(self, reason: str, kind: Optional[str] = None, place: str = "", ended: Optional[int] = None) -> CannotSay:
         """The event that is said, or what happens after so many have ended, can't be said."""
@@ -792,12 +799,12 @@ class Said:
         if named:
             script["cooperators"] = named
 
-    def _cooperator(self, cooperating: Cooperating) -> Dict[str, int]:
+    def _cooperator(self, cooperating: Cooperating) -> Dict[str, Union[int, str]]:
         lack = self._lack(cooperating)
         if lack:
             raise self._cannot(lack, "cooperator")
         delay = exact(cooperating.delays[0].seconds) if cooperating.delays else Fraction(1)
-        return {"units": self._tick_units[id(cooperating)], "delay": int(delay * self._scale)}
+        return {"units": self._tick_units[id(cooperating)], "delay": int(delay * self._scale), "turns": grammar.TWISTED}
 
     # limits of scripts
 

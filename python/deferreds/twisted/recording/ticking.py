@@ -25,24 +25,27 @@ class _Stretch:
 
     def __init__(self, first: Tick) -> None:
         self.event = first.event
-        #: how many steps each tick has after which tasks are left, once there was one, and the most that any has
+        #: the number, once a tick has used up its steps; and the least that it may be
         self._exact: Optional[int] = None
-        self._most = 0
+        self._least = 0
 
-    def takes(self, tick: Tick) -> bool:
-        """Takes a tick that comes next, if one number will do for that, too. Gives whether it does."""
-        most = max(self._most, tick.steps)
-        exact = tick.steps if tick.left else self._exact
-        if self._exact not in (None, exact) or (exact is not None and exact < most):
+    def takes(self, tick: Tick, looked: Optional[bool]) -> bool:
+        """Takes a tick that comes next, if one number will do for that, too. Gives whether it does.
+
+        `looked`: whether the tick, after which no task was left, must have looked for the next one, or must not; None: it may have.
+        """
+        least = max(self._least, tick.steps + (looked is True))
+        exact = tick.steps if tick.left or looked is False else self._exact
+        if self._exact not in (None, exact) or (exact is not None and exact < least):
             return False
-        self._exact, self._most = exact, most
+        self._exact, self._least = exact, least
         return True
 
     @property
     def units(self) -> int:
-        """The number: if any from the most on will do, the largest that a script may have. Raises Uneven, if a script can't have it."""
+        """The number: if any from the least on will do, the largest that a script may have. Raises Uneven, if a script can't have it."""
         units = grammar.UNITS[-1] if self._exact is None else self._exact
-        if units not in grammar.UNITS or self._most > units:
+        if units not in grammar.UNITS or self._least > units:
             raise Uneven
         return units
 
@@ -51,12 +54,12 @@ def changes_of(ticks: Sequence[Tick]) -> List[Change]:
     """What number the ticks have at first, and where it changes. Raises Uneven, if no numbers give what happened."""
     stretches: List[_Stretch] = []
     before: Optional[Action] = None
-    for tick in ticks:
-        if not stretches or not stretches[-1].takes(tick):
+    for tick, looked in zip(ticks, [*(tick.before_looked for tick in ticks[1:]), None]):
+        if not stretches or not stretches[-1].takes(tick, looked):
             if stretches and tick.event is before:
                 raise Uneven
             stretches.append(_Stretch(tick))
-            stretches[-1].takes(tick)
+            stretches[-1].takes(tick, looked)
         before = tick.event
     return [Change(stretch.event, stretch.units) for stretch in stretches]
 

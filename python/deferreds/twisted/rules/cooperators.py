@@ -5,17 +5,17 @@ Each of these classes stands before Twisted's own, and takes the place of as few
 
 from __future__ import annotations
 
-from typing import Any, Collection, Dict, Iterator, List, Type, cast
+from typing import AbstractSet, Any, Dict, Iterator, List, Type, cast
 
 from twisted.internet import task
 from twisted.internet.defer import AlreadyCalledError, Deferred
 
-from ..profile import Entry
+from ..profile import TURN_ENTRIES, Entry
 from ..telling import watched
 
 
 class FairTurns(task.Cooperator):
-    """`skipped-turn`: when a task leaves the list, the one that was next still is; if none was, the first one is."""
+    """`skipped-turn`: when a task leaves the list, the one that was next still is. If none is next then, the first one is."""
 
     #: the place in the list of the task whose turn is next
     _place = 0
@@ -42,7 +42,7 @@ class FairTurns(task.Cooperator):
 
 
 class JoinsNext(FairTurns):
-    """`join-after-the-last`: if none was next when a task left the list, the next one that joins is."""
+    """`join-after-the-last`: if none is next when a task has left the list, the next one that joins is."""
 
     def _end_round(self) -> None:
         pass
@@ -166,8 +166,12 @@ _OF_TASKS: Dict[Entry, Type[task.CooperativeTask]] = {
 ENTRIES = frozenset((*_OF_COOPERATORS, *_OF_TASKS))
 
 
-def cooperator_class(entries: Collection[Entry]) -> Type[task.Cooperator]:
-    """A Cooperator that does what `deferreds` does at these entries, and all else as Twisted's."""
+def cooperator_class(entries: AbstractSet[Entry], of_turns: AbstractSet[Entry]) -> Type[task.Cooperator]:
+    """A Cooperator that does what `deferreds` does at these entries, and all else as Twisted's.
+
+    `of_turns`: the entries of how tasks take turns that it can reach.
+    """
+    entries = entries - (TURN_ENTRIES - of_turns)
     of_task = tuple(rule for entry, rule in _OF_TASKS.items() if entry in entries)
     of_cooperator = tuple(rule for entry, rule in _OF_COOPERATORS.items() if entry in entries)
     made = type("Task", (*of_task, task.CooperativeTask), {})

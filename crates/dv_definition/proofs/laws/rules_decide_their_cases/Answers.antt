@@ -2,7 +2,8 @@ use Rattle.std.proofs.Common.{refl}
 use Rattle.dv_definition.proofs.CasesHold.{tokens_are_waited_for, full_queues_refuse, fired_lists_stay, turns_follow}
 use Rattle.dv_definition.proofs.CasesHold.{ended_tasks_stay, name_errors_are_thrown, errbacks_are_for_failures}
 use Rattle.dv_definition.proofs.CasesHold.{many_jobs_are_refused, failures_of_calls_are_told, unmet_runs_end}
-use Rattle.dv_definition.proofs.CasesHold.{stopped_ones_take_none, turns_take_bodies}
+use Rattle.dv_definition.proofs.CasesHold.{fair_turns_go_round, joiners_want_ticks, stopped_ones_take_none}
+use Rattle.dv_definition.proofs.CasesHold.{turns_take_bodies}
 use Rattle.dv_definition.proofs.laws.rules_decide_their_cases.Goals as goal
 
 pub returns-clause-deferreds : goal.returns-clause-deferreds
@@ -40,6 +41,15 @@ returns-clause-tasks c = ended_tasks_stay
 
 pub returns-clause-cooperators : goal.returns-clause-cooperators
 returns-clause-cooperators c = stopped_ones_take_none
+
+pub returns-clause-joining : goal.returns-clause-joining
+returns-clause-joining c = joiners_want_ticks
+
+pub returns-clause-fair : goal.returns-clause-fair
+returns-clause-fair c = fair_turns_go_round
+
+pub returns-clause-twisted : goal.returns-clause-twisted
+returns-clause-twisted c = λ a b c. refl
 
 pub returns-clause-inline : goal.returns-clause-inline
 returns-clause-inline c = name_errors_are_thrown

@@ -1,5 +1,6 @@
 use Rattle.std.proofs.Common.{refl}
-use Rattle.dv_definition.proofs.ConditionsHold.{calls_come, cancels_reach, ends_leave, failures_thrown, lists_fire}
+use Rattle.dv_definition.proofs.ConditionsHold.{calls_come, cancels_reach, ends_leave, failing_throw, failures_thrown}
+use Rattle.dv_definition.proofs.ConditionsHold.{lists_fire, tasks_leave}
 use Rattle.dv_definition.proofs.laws.steps_go_by_the_page.Goals as goal
 
 pub returns-clause-used : goal.returns-clause-used
@@ -23,8 +24,14 @@ returns-clause-turned c = λ x c. refl
 pub returns-clause-stepped : goal.returns-clause-stepped
 returns-clause-stepped c = λ t. refl
 
+pub returns-clause-tasks : goal.returns-clause-tasks
+returns-clause-tasks c = tasks_leave
+
 pub returns-clause-thrown : goal.returns-clause-thrown
 returns-clause-thrown c = failures_thrown
 
 pub returns-clause-left : goal.returns-clause-left
 returns-clause-left c = ends_leave
+
+pub returns-clause-ended : goal.returns-clause-ended
+returns-clause-ended c = failing_throw

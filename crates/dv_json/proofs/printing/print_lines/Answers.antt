@@ -6,41 +6,41 @@ use Rattle.dv_json.proofs.printing.print_lines.Goals as goal
 
 pub returns-in_err-print_start-clause-err : goal.returns-in_err-print_start-clause-err
 returns-in_err-print_start-clause-err g c =
-    on_err c.from_residual.result _ (text_cut c.args.classes.now c.args.run.marks.now c.args.run.journal.now
+    on_err c.from_residual.result _ (text_cut c.args.classes.now c.args.run.marks.now c.args.run.batches.now c.args.run.journal.now
     c.args.run.stopped c.args.run.outcomes.now (length c.args.left.now) _ _ _ c.requires.empty
-    (cut_first c.in_err-print_start.ensures.err (after_start c.args.classes.now c.args.run.marks.now
+    (cut_first c.in_err-print_start.ensures.err (after_start c.args.classes.now c.args.run.marks.now c.args.run.batches.now
     c.args.run.journal.now c.args.run.stopped c.args.run.outcomes.now (length c.args.left.now))))
 
 pub returns-in_err-print_entries-clause-err : goal.returns-in_err-print_entries-clause-err
 returns-in_err-print_entries-clause-err g c =
-    on_err c.from_residual-in_err-print_entries.result _ (text_cut c.args.classes.now c.args.run.marks.now
+    on_err c.from_residual-in_err-print_entries.result _ (text_cut c.args.classes.now c.args.run.marks.now c.args.run.batches.now
     c.args.run.journal.now c.args.run.stopped c.args.run.outcomes.now (length c.args.left.now) _ _ _ c.requires.empty
     (cut_second c.in_ok-print_start.ensures.ok
     (cut_first (rw (c.entries-entries.ensures, c.requires.marks) at c.in_err-print_entries.ensures.err)
-    (after_entries c.args.classes.now c.args.run.marks.now c.args.run.journal.now c.args.run.stopped
+    (after_entries c.args.classes.now c.args.run.marks.now c.args.run.batches.now c.args.run.journal.now c.args.run.stopped
     c.args.run.outcomes.now (length c.args.left.now)))))
 
 pub returns-in_err-print_outcomes-clause-err : goal.returns-in_err-print_outcomes-clause-err
 returns-in_err-print_outcomes-clause-err g c =
-    on_err c.from_residual-in_err-print_outcomes.result _ (text_cut c.args.classes.now c.args.run.marks.now
+    on_err c.from_residual-in_err-print_outcomes.result _ (text_cut c.args.classes.now c.args.run.marks.now c.args.run.batches.now
     c.args.run.journal.now c.args.run.stopped c.args.run.outcomes.now (length c.args.left.now) _ _ _ c.requires.empty
     (cut_second c.in_ok-print_start.ensures.ok
     (cut_second (rw (c.entries-entries.ensures, c.requires.marks) at c.in_ok-print_entries.ensures.ok)
-    (cut_first c.in_err-print_outcomes.ensures.err (after_deferreds c.args.classes.now c.args.run.marks.now
+    (cut_first c.in_err-print_outcomes.ensures.err (after_deferreds c.args.classes.now c.args.run.marks.now c.args.run.batches.now
     c.args.run.journal.now c.args.run.stopped c.args.run.outcomes.now (length c.args.left.now))))))
 
 pub returns-in_err-print_left-clause-err : goal.returns-in_err-print_left-clause-err
 returns-in_err-print_left-clause-err g c =
-    on_err c.from_residual-in_err-print_left.result _ (text_cut c.args.classes.now c.args.run.marks.now
+    on_err c.from_residual-in_err-print_left.result _ (text_cut c.args.classes.now c.args.run.marks.now c.args.run.batches.now
     c.args.run.journal.now c.args.run.stopped c.args.run.outcomes.now (length c.args.left.now) _ _ _ c.requires.empty
     (cut_second c.in_ok-print_start.ensures.ok
     (cut_second (rw (c.entries-entries.ensures, c.requires.marks) at c.in_ok-print_entries.ensures.ok)
     (cut_second c.in_ok-print_outcomes.ensures.ok
-    (cut_first c.in_err-print_left.ensures.err (ends_exist c.args.run.journal.now c.args.run.stopped))))))
+    (cut_first c.in_err-print_left.ensures.err (ends_exist c.args.run.batches.now c.args.run.journal.now c.args.run.stopped))))))
 
 pub returns-in_err-print_end-clause-err : goal.returns-in_err-print_end-clause-err
 returns-in_err-print_end-clause-err g c =
-    on_err c.from_residual-in_err-print_end.result _ (text_cut c.args.classes.now c.args.run.marks.now
+    on_err c.from_residual-in_err-print_end.result _ (text_cut c.args.classes.now c.args.run.marks.now c.args.run.batches.now
     c.args.run.journal.now c.args.run.stopped c.args.run.outcomes.now (length c.args.left.now) _ _ _ c.requires.empty
     (cut_second c.in_ok-print_start.ensures.ok
     (cut_second (rw (c.entries-entries.ensures, c.requires.marks) at c.in_ok-print_entries.ensures.ok) (cut_second
@@ -48,7 +48,7 @@ returns-in_err-print_end-clause-err g c =
 
 pub returns-in_err-write_all-clause-err : goal.returns-in_err-write_all-clause-err
 returns-in_err-write_all-clause-err g c =
-    on_err c.from_residual-in_err-write_all.result _ (text_cut c.args.classes.now c.args.run.marks.now
+    on_err c.from_residual-in_err-write_all.result _ (text_cut c.args.classes.now c.args.run.marks.now c.args.run.batches.now
     c.args.run.journal.now c.args.run.stopped c.args.run.outcomes.now (length c.args.left.now) _ _ _ c.requires.empty
     (cut_rest (both_gathered c.in_ok-print_start.ensures.ok
     (both_gathered (rw (c.entries-entries.ensures, c.requires.marks) at c.in_ok-print_entries.ensures.ok) (both_gathered
@@ -57,7 +57,7 @@ returns-in_err-write_all-clause-err g c =
 
 pub returns-clause-ok : goal.returns-clause-ok
 returns-clause-ok g c =
-    text_written c.args.classes.now c.args.run.marks.now c.args.run.journal.now c.args.run.stopped
+    text_written c.args.classes.now c.args.run.marks.now c.args.run.batches.now c.args.run.journal.now c.args.run.stopped
     c.args.run.outcomes.now (length c.args.left.now) _ _ _ _ _ c.requires.empty
     (both_gathered c.in_ok-print_start.ensures.ok
     (both_gathered (rw (c.entries-entries.ensures, c.requires.marks) at c.in_ok-print_entries.ensures.ok) (both_gathered

@@ -7,6 +7,7 @@ abbrev pub invariant-loop-around : goal.invariant-loop-around
 invariant-loop-around l = record {
   same : left_from l.outcome l.self.opens l.fn.self ≡ left_from l.fn.outcome l.fn.self.opens l.fn.self;
   classes : l.self.classes ≡ l.fn.self.classes;
+  ends_throw : l.self.ends_throw ≡ l.fn.self.ends_throw;
   statements : l.self.statements ≡ l.fn.self.statements;
   value : l.self.value ≡ l.fn.self.value;
   result : l.self.result ≡ l.fn.self.result;

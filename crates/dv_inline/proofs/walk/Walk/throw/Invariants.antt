@@ -8,6 +8,7 @@ invariant-loop-around l = record {
   same : thrown_from l.failure l.self.opens l.fn.self
       ≡ thrown_from l.fn.failure l.fn.self.opens l.fn.self;
   classes : l.self.classes ≡ l.fn.self.classes;
+  ends_throw : l.self.ends_throw ≡ l.fn.self.ends_throw;
   statements : l.self.statements ≡ l.fn.self.statements;
   value : l.self.value ≡ l.fn.self.value;
   result : l.self.result ≡ l.fn.self.result;

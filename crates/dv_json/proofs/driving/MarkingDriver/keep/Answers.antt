@@ -1,4 +1,4 @@
-use Rattle.std.proofs.Common.{◌≡◌, ◌∙◌, ap, sym, subst}
+use Rattle.std.proofs.Common.{◌∙◌, ap}
 use Rattle.dv_posts.specs.Batches.{joined}
 use Rattle.dv_posts.specs.Posts.{of}
 use Rattle.dv_json.proofs.driving.MarkingDriver.keep.Goals as goal

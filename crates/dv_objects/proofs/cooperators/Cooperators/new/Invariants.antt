@@ -5,4 +5,4 @@ use Rattle.dv_objects.proofs.cooperators.Cooperators.new.Given as goal
 -- the Cooperator that each script has, and those that are named up to this one
 abbrev pub invariant-loop-one : goal.invariant-loop-one
 invariant-loop-one l =
-    l.all.items ≡ new_cooperator None l.units l.delay ∷ map named_cooperator (take l.one-index l.named)
+    l.all.items ≡ new_cooperator None l.fn.settings ∷ map named_cooperator (take l.one-index l.named)
