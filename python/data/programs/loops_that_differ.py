@@ -3,6 +3,7 @@
 As a program, a word is the reason. As a module, each reason is a test on a Clock of its own.
 """
 
+import gc
 import itertools
 import sys
 
@@ -206,6 +207,8 @@ def of(reason):
         looping(clock, lambda: None)
         reason(clock)
         clock.pump([PART / 2] * 70)
+        # (what nobody handles is logged when its Deferred is collected)
+        gc.collect()
         self.flushLoggedErrors(AssertionError)
 
     return test

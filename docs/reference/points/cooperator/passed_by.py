@@ -1,6 +1,6 @@
 """When a task leaves the list, Twisted passes the next one by, once.
 
-A task leaves when it ends, is paused, or waits for a Deferred. Those behind it move up by one place, and Twisted doesn't take that into account. So if the task has had its turn in this round, one of them loses its own. A script says so by `"turns":"twisted"`, as each recording does. Without that, `deferreds` passes nobody by.
+A task leaves when it ends, is paused, or waits for a Deferred. Those behind it move up by one place, and Twisted doesn't take that into account. So if the task has had its turn in this round, one of them loses its own. A script says so by `"turns":"twisted"`, as in recordings. Without that, `deferreds` passes nobody by.
 
 Look at the second step: it would be the turn of `digits`, and `lines` has it.
 """
