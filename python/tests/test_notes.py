@@ -9,6 +9,7 @@ import os
 import random
 import signal
 import struct
+import time
 import unittest
 import zlib
 from pathlib import Path
@@ -136,6 +137,8 @@ class Recordings(RecordingCase):
     def test_sigusr1_writes_the_run_so_far_and_the_notes_go_on(self) -> None:
         process = self.start("-o", "run", "--notes", "answers_and_idles.py")
         self.assertEqual([process.stdout.readline() for _ in range(6)][-1], "idle\n")
+        # (the line is printed inside an event, and this is about a run between events)
+        time.sleep(1)
         process.send_signal(signal.SIGUSR1)
         self.wait_for(lambda: self.is_kept("run"), "the run so far")
         self.assertIn("run.notes", self.files())

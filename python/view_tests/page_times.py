@@ -6,7 +6,7 @@ clock. A page is opened five times, each in a browser of its own, whose process 
 
 from __future__ import annotations
 
-import sys
+import argparse
 import tempfile
 import time
 from pathlib import Path
@@ -75,4 +75,6 @@ def _steps(browser: Browser) -> None:
 
 
 if __name__ == "__main__":
-    main(int(sys.argv[1]) if len(sys.argv) > 1 else 100_000)
+    _parser = argparse.ArgumentParser(prog="python3 -m view_tests.page_times", description="Measures how long a browser takes for a page.")
+    _parser.add_argument("lines", nargs="?", type=int, default=100_000, metavar="LINES", help="how many lines the page has; 100,000 if left out")
+    main(_parser.parse_args().lines)
